@@ -1,0 +1,73 @@
+-- What an index and a search say of a list of cells.
+use Rattle.std.proofs.Common.{◌≡◌, ℕ, ◌+◌, ◌<◌, Bool, true, false, List, [], ◌∷◌, length, get_or, Option, Some, None, Result, Ok, Err, refl, sym, ap, ◌∙◌, arith, inl, inr}
+use Rattle.std.specs.declared.cmp.Ordering.{Ordering}
+use Rattle.std.specs.declared.cmp.Ordering.TheVariants.{Less, Greater}
+use Rattle.std.specs.Ordering.{is_lt, is_eq, ordering_reverse}
+use Rattle.std.specs.Cmp.{tied_back}
+use Rattle.std.specs.List.{slice_get, Contains}
+use Rattle.std.specs.List.Sorted.{IsSorted, IsBinarySearchResult, IsSearchInRange}
+use Rattle.std.specs.Option.{option_copied}
+use Rattle.std.specs.Result.{is_ok}
+use Rattle.std.specs.Slice.{IsItemAt}
+use Rattle.std.specs.Borrow.{Bor}
+use Rattle.std.proofs.lemmas.Option.{slice_get_past, slice_get-get_or}
+use Rattle.std.proofs.lemmas.Bool.{cases_lt}
+use Rattle.std.proofs.lemmas.List.Folds.{list_any_at, list_any_none, Any-from_list_any}
+use Rattle.std.proofs.lemmas.List.Sorted.{searchable_from_sorted}
+use Rattle.std.proofs.lemmas.Map.Keys.{Less-from_sorted}
+use Rattle.life_cells.specs.declared.cell.Cell.{Cell}
+use Rattle.life_cells.specs.Cells.{cell_cmp, IsRising, Cells, in_order, alive}
+use Rattle.life_cells.specs.Laws.{alive-in_order}
+use Rattle.life_cells.specs.Listed.{same_cell, listed}
+use Rattle.life_cells.specs.Order.{cells_total, same_cell_is, same_cell-itself}
+use Rattle.life_plane.specs.Plane.{same_plane}
+
+pub copied_item : (cs : List Cell) (i : ℕ) (r : Option (Bor Cell)) → IsItemAt cs i r → option_copied r ≡ slice_get cs i
+copied_item cs i None h = sym (slice_get_past cs i h.3)
+copied_item cs i (Some b) h = ap Some (h.3.1 b.now) ∙ sym (slice_get-get_or cs i b.now h.3.0)
+
+turned : (a b : Cell) (o : Ordering) → cell_cmp a b ≡ o → cell_cmp b a ≡ ordering_reverse o
+turned a b o e = cells_total.antisymm b a ∙ ap ordering_reverse e
+
+pub sorted_from_rising : (cs : List Cell) → IsRising cs → IsSorted cell_cmp cs
+sorted_from_rising cs h k d _ lt = ap is_lt (turned (get_or cs k d) (get_or cs (k + 1) d) Less (Less-from_sorted cell_cmp cs k (k + 1) d h (omega arith) lt))
+
+-- a search finds exactly what is listed
+pub search_is_listed : (cs : List Cell) (c : Cell) (r : Result ℕ ℕ) → IsRising cs → IsSearchInRange r (length cs) → IsBinarySearchResult (λ y. cell_cmp y c) cs r → is_ok r ≡ listed cs c.x c.y
+search_is_listed cs c (Ok k) h within is = sym (list_any_at (same_cell c) cs k c within (ap is_eq (tied_back cells_total (get_or cs k c) c (is c))))
+search_is_listed cs c (Err i) h within is =
+    let parts = is (searchable_from_sorted cells_total (λ (a : Cell). a) cs c (sorted_from_rising cs h)) in
+    sym (list_any_none (same_cell c) cs (λ k d lt. elim (cases_lt k i) [
+      | inl below ↦ ap is_eq (turned (get_or cs k d) c Less (parts.0 k d (omega arith) below))
+      | inr above ↦ ap is_eq (turned (get_or cs k d) c Greater (parts.1 k d above lt))
+    ]))
+
+pub contains_listed : (cs : List Cell) (c : Cell) → Contains cs c → listed cs c.x c.y ≡ true
+contains_listed cs c h = list_any_at (same_cell c) cs h.0 c h.1 (ap (same_cell c) h.2 ∙ same_cell-itself c)
+
+pub place_listed : (cs : List Cell) (k : ℕ) (d : Cell) → k < length cs → listed cs (get_or cs k d).x (get_or cs k d).y ≡ true
+place_listed cs k d lt = list_any_at (same_cell (get_or cs k d)) cs k d lt (same_cell-itself (get_or cs k d))
+
+pub listed_contains : (cs : List Cell) (c : Cell) → listed cs c.x c.y ≡ true → Contains cs c
+listed_contains cs c h =
+    let there = Any-from_list_any (same_cell c) cs h in
+    let same : c ≡ there.1 = same_cell_is c there.1 there.4 in
+    (there.0, there.2, ap (λ d. get_or cs there.0 d) same ∙ there.3 ∙ sym same)
+
+-- lists with the same cells list the same
+pub same_listed : (cs ds : List Cell) → ((c : Cell) → Contains cs c → Contains ds c) → ((c : Cell) → Contains ds c → Contains cs c) → listed cs ≡ listed ds
+same_listed cs ds f g = same_plane _ _ (λ x y. let c : Cell = record { y = y; x = x } in
+    both_true_or_not (listed cs x y) (listed ds x y) (λ h. contains_listed ds c (f c (listed_contains cs c h))) (λ h. contains_listed cs c (g c (listed_contains ds c h))))
+  where
+    both_true_or_not : (a b : Bool) → (a ≡ true → b ≡ true) → (b ≡ true → a ≡ true) → a ≡ b
+    both_true_or_not true b f g = sym (f refl)
+    both_true_or_not false true f g = g refl
+    both_true_or_not false false f g = refl
+
+pub none_of_length : (cs : List Cell) → length cs ≡ 0 → cs ≡ []
+none_of_length [] h = refl
+none_of_length (c ∷ cs) h = absurd (omega arith)
+
+-- what is listed in order is what lives
+pub alive_of_order : (cs : List Cell) (s : Cells) → cs ≡ in_order s → listed cs ≡ alive s
+alive_of_order cs s e = ap listed e ∙ sym (alive-in_order s)

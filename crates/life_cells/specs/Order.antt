@@ -1,0 +1,100 @@
+-- The order of cells.
+use Rattle.std.specs.Prelude.{◌≡◌, true, ◌⊎◌, ℕ, ◌-◌, ◌<◌, ◌<ℤ◌, List, [], ◌∷◌, ◌++◌, length}
+use Rattle.std.specs.declared.cmp.Ordering.{Ordering}
+use Rattle.std.specs.declared.cmp.Ordering.TheVariants.{Less, Equal, Greater}
+use Rattle.std.specs.Ordering.{int_cmp, ordering_then, is_eq}
+use Rattle.std.specs.Cmp.{IsTotalOrder, then_total, on_total, int_cmp_total, int_ranked, int_cmp_is, tied_itself, Equal-is}
+use Rattle.std.specs.List.{AllByRecursion}
+use Rattle.std.specs.List.Sorted.{IsStrictlySortedBy}
+use Rattle.std.specs.FinSet.{IsAntisymmetric}
+use Rattle.std.proofs.lemmas.Bool.{cases_lt}
+use Rattle.std.proofs.lemmas.Map.Keys.{Less-from_sorted}
+use Rattle.std.proofs.Common.{suc, get_or, refl, sym, ap, ◌∙◌, inl, inr, arith}
+use Rattle.life_cells.specs.declared.cell.Cell.{Cell}
+use Rattle.life_cells.specs.Cells.{cell_cmp, IsRising}
+use Rattle.life_cells.specs.Listed.{same_cell}
+
+pub cells_total : IsTotalOrder cell_cmp
+cells_total = then_total (on_total (λ (c : Cell). c.y) int_cmp_total) (on_total (λ (c : Cell). c.x) int_cmp_total)
+
+tied_first : (a b : Ordering) → ordering_then a b ≡ Equal → a ≡ Equal
+tied_first Less b h = h
+tied_first Equal b h = refl
+tied_first Greater b h = h
+
+tied_second : (a b : Ordering) → ordering_then a b ≡ Equal → b ≡ Equal
+tied_second Less b h = cc
+tied_second Equal b h = h
+tied_second Greater b h = cc
+
+-- only equal cells tie
+pub cells_antisymmetric : IsAntisymmetric cell_cmp
+cells_antisymmetric a b e =
+    let by_y = tied_first (int_cmp a.y b.y) (int_cmp a.x b.x) e in
+    let by_x = tied_second (int_cmp a.y b.y) (int_cmp a.x b.x) e in
+    let ys : a.y ≡ b.y = int_ranked a.y b.y Equal (sym by_y) in
+    let xs : a.x ≡ b.x = int_ranked a.x b.x Equal (sym by_x) in
+    λ i. record { y = ys i; x = xs i }
+
+-- a test of two cells, read
+pub same_cell_is : (a b : Cell) → same_cell a b ≡ true → a ≡ b
+same_cell_is a b h = cells_antisymmetric a b ((Equal-is (cell_cmp a b)).0 h)
+
+pub same_cell-itself : (a : Cell) → same_cell a a ≡ true
+same_cell-itself a = ap is_eq (tied_itself cells_total a)
+
+-- what it is to come before
+pub comes_before : (a b : Cell) → cell_cmp a b ≡ Less → (a.y <ℤ b.y) ⊎ ((a.y ≡ b.y) × (a.x <ℤ b.x))
+comes_before a b h =
+    elim (int_cmp a.y b.y) as (λ o. int_cmp a.y b.y ≡ o → ordering_then o (int_cmp a.x b.x) ≡ Less → (a.y <ℤ b.y) ⊎ ((a.y ≡ b.y) × (a.x <ℤ b.x))) [
+      | Less ↦ λ e _. inl (int_ranked a.y b.y Less (sym e))
+      | Equal ↦ λ e k. inr (int_ranked a.y b.y Equal (sym e), int_ranked a.x b.x Less (sym k))
+      | Greater ↦ λ e k. cc
+    ] refl h
+
+-- a cell of an earlier row comes before
+pub before_by_row : (a b : Cell) → a.y <ℤ b.y → cell_cmp a b ≡ Less
+before_by_row a b h = ap (λ o. ordering_then o (int_cmp a.x b.x)) (sym (int_cmp_is a.y b.y Less h))
+
+-- a cell further left in the same row comes before
+pub before_in_row : (a b : Cell) → a.y ≡ b.y → a.x <ℤ b.x → cell_cmp a b ≡ Less
+before_in_row a b e h = ap (λ o. ordering_then o (int_cmp a.x b.x)) (sym (int_cmp_is a.y b.y Equal e)) ∙ sym (int_cmp_is a.x b.x Less h)
+
+-- ---- lists that rise
+
+pub rising-none : IsRising []
+unfolding IsStrictlySortedBy
+rising-none = tt
+
+pub rising_head : (c : Cell) (cs : List Cell) → IsRising (c ∷ cs) → AllByRecursion (λ d. cell_cmp c d ≡ Less) cs
+unfolding IsStrictlySortedBy
+rising_head c cs h = h.0
+
+pub rising_tail : (c : Cell) (cs : List Cell) → IsRising (c ∷ cs) → IsRising cs
+unfolding IsStrictlySortedBy
+rising_tail c cs h = h.1
+
+pub rising-cons : (c : Cell) (cs : List Cell) → AllByRecursion (λ d. cell_cmp c d ≡ Less) cs → IsRising cs → IsRising (c ∷ cs)
+unfolding IsStrictlySortedBy
+rising-cons c cs h k = (h, k)
+
+each_push : (P : Cell → Type 0) (cs : List Cell) (d : Cell) → AllByRecursion P cs → P d → AllByRecursion P (cs ++ d ∷ [])
+each_push P [] d h p = (p, tt)
+each_push P (c ∷ cs) d h p = (h.0, each_push P cs d h.1 p)
+
+-- one more cell after all others
+pub rising_push : (cs : List Cell) (d : Cell) → IsRising cs → AllByRecursion (λ c. cell_cmp c d ≡ Less) cs → IsRising (cs ++ d ∷ [])
+unfolding IsStrictlySortedBy
+rising_push [] d h below = (tt, tt)
+rising_push (c ∷ cs) d h below = (each_push (λ e. cell_cmp c e ≡ Less) cs d h.0 below.0, rising_push cs d h.1 below.1)
+
+each_by_place : (P : Cell → Type 0) (cs : List Cell) (z : Cell) → ((k : ℕ) → k < length cs → P (get_or cs k z)) → AllByRecursion P cs
+each_by_place P [] z h = tt
+each_by_place P (c ∷ cs) z h = (h 0 (omega arith), each_by_place P cs z (λ k lt. h (suc k) (omega arith)))
+
+-- one more cell after the last one
+pub rising_push_last : (cs : List Cell) (d z : Cell) → IsRising cs → (0 < length cs → cell_cmp (get_or cs (length cs - 1) z) d ≡ Less) → IsRising (cs ++ d ∷ [])
+rising_push_last cs d z h last = rising_push cs d h (each_by_place (λ c. cell_cmp c d ≡ Less) cs z (λ k lt. elim (cases_lt k (length cs - 1)) [
+  | inl before ↦ cells_total.trans (get_or cs k z) (get_or cs (length cs - 1) z) d (Less-from_sorted cell_cmp cs k (length cs - 1) z h before (omega arith)) (last (omega arith))
+  | inr at ↦ let same : k ≡ length cs - 1 = omega arith in ap (λ i. cell_cmp (get_or cs i z) d) same ∙ last (omega arith)
+]))
