@@ -1,0 +1,78 @@
+//! The header of a text, in the one spelling that is read so far.
+
+ghost use Rattle.std.specs.Prelude.{◌≡◌, ℕ, ◌↔◌, ◌++◌, List, IsTrue, IfSome, IfNone};
+ghost use Rattle.std.specs.List.{position};
+ghost use Rattle.std.specs.Str.Lines.{strip_carriage_return};
+ghost use Rattle.life_rle.specs.Faults.{IsAtCount};
+ghost use Rattle.life_rle.specs.Numbers.{IsNatural};
+ghost use Rattle.life_rle.specs.PlainText.{IsPlainHeader, first_line, behind, is_line_feed, front};
+
+use crate::digits::{MOST_DIGITS, split_digits};
+
+/// What follows a word at the front of bytes.
+fn skip<'a>(bytes: &'a [u8], word: &[u8]) -> Option<&'a [u8]>
+    ensures some { IfSome result (λ rest. bytes.now ≡ word.now ++ rest.now) }
+    ensures none { IfNone result ((rest : List ℕ) → bytes.now ≡ word.now ++ rest → ⊥) }
+{
+    bytes.strip_prefix(word)
+}
+
+/// What follows a number of 1 to 18 digits at the front of bytes.
+fn skip_number(bytes: &[u8]) -> Option<&[u8]>
+    ensures some { IfSome result (λ rest. (digits : List ℕ) × (IsAtCount bytes.now digits rest.now × ((n : ℕ) × IsNatural digits n))) }
+    ensures none { IfNone result ((digits rest : List ℕ) (n : ℕ) → IsAtCount bytes.now digits rest → IsNatural digits n → ⊥) }
+{
+    let (digits, rest) = split_digits(bytes);
+    if digits.is_empty() || digits.len() > MOST_DIGITS {
+        None
+    } else {
+        Some(rest)
+    }
+}
+
+/// Whether a line is `x = M, y = N, rule = B3/S23` in just this spelling.
+pub fn is_plain_header(line: &[u8]) -> bool
+    ensures { IsTrue result ↔ IsPlainHeader line.now }
+{
+    let Some(at_width) = skip(line, b"x = ") else {
+        return false;
+    };
+    let Some(behind_width) = skip_number(at_width) else {
+        return false;
+    };
+    let Some(at_height) = skip(behind_width, b", y = ") else {
+        return false;
+    };
+    let Some(behind_height) = skip_number(at_height) else {
+        return false;
+    };
+    behind_height == b", rule = B3/S23".as_slice()
+}
+
+/// A line without the carriage return at its end.
+fn strip_return(line: &[u8]) -> &[u8]
+    ensures { result.now ≡ strip_carriage_return line.now }
+{
+    match line.split_last() {
+        Some((b'\r', before)) => before,
+        _ => line,
+    }
+}
+
+/// Where a text has its first line feed.
+fn first_line_feed(text: &[u8]) -> Option<usize>
+    ensures { result ≡ position is_line_feed text.now }
+{
+    text.iter().position(|b| *b == b'\n')
+}
+
+/// The first line of a text, and what follows its line feed.
+pub fn split_line(text: &[u8]) -> (&[u8], &[u8])
+    ensures line { result.0.now ≡ first_line text.now }
+    ensures rest { result.1.now ≡ behind text.now }
+{
+    match first_line_feed(text) {
+        Some(end) => (strip_return(&text[..end]), &text[end + 1..]),
+        None => text.split_at(text.len()),
+    }
+}
