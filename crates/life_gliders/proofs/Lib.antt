@@ -1,0 +1,2 @@
+-- Lemmas on the cells of gliders.
+pub mod Placing

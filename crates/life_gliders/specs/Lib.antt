@@ -1,0 +1,3 @@
+-- Gliders as cells.
+pub mod Glider
+pub mod Listing

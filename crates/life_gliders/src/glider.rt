@@ -1,0 +1,79 @@
+//! The cells of a glider.
+
+ghost use Rattle.std.specs.Prelude.{◌≡◌, ◌<◌, ◌≤◌, ◌≤ℤ◌, ◌^◌, ◌∷◌, [], ℤ, pos, neg_ℤ, map};
+ghost use Rattle.life_cells.specs.Listed.{listed};
+ghost use Rattle.life_plane.specs.Tracks.{phase};
+ghost use Rattle.life_gliders.specs.Glider.{glider, IsLaneAtMost};
+ghost use Rattle.life_gliders.specs.Listing.{glider_list, placed, cell_at_rest};
+
+use crate::track::Track;
+use life_cells::Cell;
+
+// The four phases of the stream's glider at rest, x before y.
+const PHASES: [[(u8, u8); 5]; 4] = [
+    [(1, 0), (2, 1), (0, 2), (1, 2), (2, 2)],
+    [(0, 1), (2, 1), (1, 2), (2, 2), (1, 3)],
+    [(2, 1), (0, 2), (2, 2), (1, 3), (2, 3)],
+    [(1, 1), (2, 2), (3, 2), (1, 3), (2, 3)],
+];
+
+// The cells of a phase at rest.
+fn phase_at_rest(number: usize) -> [(u8, u8); 5]
+    requires { number < 4 }
+    ensures { map cell_at_rest result ≡ phase number }
+{
+    PHASES[number]
+}
+
+// Where a glider that has travelled so many quarters has a cell of its phase.
+fn place(track: Track, quarters: i64, rest: (u8, u8)) -> Cell
+    requires low { neg_ℤ (pos (2 ^ 60)) ≤ℤ quarters }
+    requires high { quarters ≤ℤ pos (2 ^ 60) }
+    requires lane { IsLaneAtMost (2 ^ 60) track }
+    ensures { result ≡ placed track quarters (cell_at_rest rest) }
+{
+    let x = quarters + i64::from(rest.0);
+    let y = quarters + i64::from(rest.1);
+    match track {
+        Track::Stream => Cell { y, x },
+        Track::Salvo { lane } => Cell { y: -y, x: lane + x },
+    }
+}
+
+/// The five cells of the glider of index j on a track, in the order of its phase at rest.
+pub fn glider_cells(track: Track, j: i64) -> [Cell; 5]
+    requires low { neg_ℤ (pos (2 ^ 60)) ≤ℤ j }
+    requires high { j ≤ℤ pos (2 ^ 60) }
+    requires lane { IsLaneAtMost (2 ^ 60) track }
+    ensures cells { listed result ≡ glider track j }
+    ensures order { result ≡ glider_list track j }
+{
+    let quarters = j.div_euclid(4);
+    let number = j.rem_euclid(4) as usize;
+    let [a, b, c, d, e] = phase_at_rest(number);
+    [
+        place(track, quarters, a),
+        place(track, quarters, b),
+        place(track, quarters, c),
+        place(track, quarters, d),
+        place(track, quarters, e),
+    ]
+}
+
+#[cfg(test)]
+mod tests {
+    use super::*;
+
+    #[test]
+    fn gliders_are_where_they_should_be(rt: HostRuntime) {
+        let now = glider_cells(Track::Stream, 0);
+        let cells_now = [(1, 0), (2, 1), (0, 2), (1, 2), (2, 2)];
+        assert_eq!(rt; now.map(|cell| (cell.x, cell.y)), cells_now);
+        let before = glider_cells(Track::Stream, -40);
+        let cells_before = [(-9, -10), (-8, -9), (-10, -8), (-9, -8), (-8, -8)];
+        assert_eq!(rt; before.map(|cell| (cell.x, cell.y)), cells_before);
+        let thrown = glider_cells(Track::Salvo { lane: 1 }, 20);
+        let cells_thrown = [(7, -5), (8, -6), (6, -7), (7, -7), (8, -7)];
+        assert_eq!(rt; thrown.map(|cell| (cell.x, cell.y)), cells_thrown);
+    }
+}

@@ -1,0 +1,9 @@
+//! Gliders: the stream travels south-east (down and right), a salvo north-east (up and right) on its lane.
+//! x goes right and y goes down; a glider's index rises by one a generation.
+#![tactic(auto)]
+
+pub mod glider;
+pub mod track;
+
+pub use glider::glider_cells;
+pub use track::Track;
