@@ -1,0 +1,2 @@
+-- The parts of a recipe book.
+pub mod Limits
