@@ -1,0 +1,9 @@
+use Rattle.std.proofs.Common.{◌∙◌, ap, arith}
+use Rattle.std.proofs.lemmas.Int.{ints}
+use Rattle.life_plane.specs.Tracks.{stream_glider}
+use Rattle.recipe_turn.proofs.own_gliders.glider_at.Goals as goal
+
+pub returns : goal.returns
+returns c =
+    let range = c.requires.settings.approach.range in
+    c.glider_cells.ensures.cells ∙ ap stream_glider (omega (arith, ints, c.from.ensures))
