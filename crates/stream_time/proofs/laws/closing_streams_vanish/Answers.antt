@@ -1,0 +1,5 @@
+use Rattle.stream_time.specs.Closing.{closing_stream_vanishes}
+use Rattle.stream_time.proofs.laws.closing_streams_vanish.Goals as goal
+
+pub returns : goal.returns
+returns c = closing_stream_vanishes

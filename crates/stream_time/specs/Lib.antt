@@ -1,0 +1,7 @@
+-- Streams of turns in time: when each turn may start, the pattern, its number of generations, and what it comes to.
+pub mod Schedule
+pub mod Pattern
+pub mod Bridge
+pub mod Closing
+pub mod OneTurn
+pub mod Range

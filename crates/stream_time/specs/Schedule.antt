@@ -1,0 +1,79 @@
+-- When the turns of a stream may start, and when they do.
+use Rattle.std.specs.Prelude.{◌≡◌, ℕ, ◌+◌, ◌≤◌, ℤ, pos, ◌+ℤ◌, ◌-ℤ◌, ◌*ℤ◌, ◌≤ℤ◌, List, [], ◌∷◌, Option}
+use Rattle.std.specs.declared.option.Option.TheVariants.{Some, None}
+use Rattle.life_plane.specs.Plane.{Plane, nothing}
+use Rattle.life_cells.specs.Cells.{Cells, alive}
+use Rattle.book_parts.specs.declared.settings.Settings.{Settings}
+use Rattle.book_parts.specs.declared.kind.RawKind.{RawKind}
+use Rattle.book_parts.specs.declared.turn.RawTurn.{RawTurn}
+use Rattle.book_parts.specs.declared.turn.TurnEnd.{TurnEnd}
+use Rattle.book_parts.specs.declared.turn.TurnEnd.TheVariants.{Close, Move, Emit}
+
+-- a turn of a stream: the elbow's shift before it, and when it starts
+pub record Timed : Type 0 where
+  pub turn : RawTurn
+  pub shift : ℤ
+  pub start : ℕ
+
+-- when it ends
+abbrev pub end : Timed → ℕ
+end m = m.start + m.turn.n
+
+-- how far a turn moves the elbow
+abbrev pub step_of : TurnEnd → ℤ
+step_of Close = pos 0
+step_of (Move kind step) = step
+step_of (Emit kind step lane j) = step
+
+-- a thrown glider: the end of its turn, and its lane and index there, in the plane's coordinates
+pub record Thrown : Type 0 where
+  pub time : ℕ
+  pub lane : ℤ
+  pub j : ℤ
+
+-- what has been before a turn: the turn before it, and the last throw
+pub record Past : Type 0 where
+  pub turn : Option Timed
+  pub throw : Option Thrown
+
+abbrev pub no_past : Past
+no_past = record { turn = None; throw = None }
+
+-- the last throw after a turn
+abbrev pub throw_after : TurnEnd → Timed → Option Thrown → Option Thrown
+throw_after Close m before = before
+throw_after (Move kind step) m before = before
+throw_after (Emit kind step lane j) m before = Some (record { time = end m; lane = lane +ℤ pos 2 *ℤ m.shift; j = j -ℤ pos 4 *ℤ m.shift })
+
+abbrev pub past_after : Past → Timed → Past
+past_after past m = record { turn = Some m; throw = throw_after m.turn.end m past.throw }
+
+-- not before the end of the turn before, and 20 generations behind it where the elbow has moved on: 4 more for each cell
+abbrev pub IsBehindTurn : Option Timed → ℕ → Type 0
+IsBehindTurn None start = Unit {0}
+IsBehindTurn (Some m) start = (end m ≤ start) × (((pos (end m) +ℤ pos 20) +ℤ pos 4 *ℤ step_of m.turn.end) ≤ℤ pos start)
+
+-- not before the last glider thrown has passed the reach
+abbrev pub IsBehindThrow : Settings → Option Thrown → ℕ → Type 0
+IsBehindThrow settings None start = Unit {0}
+IsBehindThrow settings (Some g) start = (g.time ≤ start) × ((pos g.time +ℤ ((pos 2 *ℤ ((settings.reach +ℤ pos 4) -ℤ g.lane)) -ℤ g.j)) ≤ℤ pos start)
+
+-- a turn may start then
+pub record MayStart (settings : Settings) (past : Past) (start : ℕ) : Type 0 where
+  pub turn : IsBehindTurn past.turn start
+  pub throw : IsBehindThrow settings past.throw start
+
+-- each turn starts when it may
+abbrev pub IsValid : Settings → Past → List Timed → Type 0
+IsValid settings past [] = Unit {0}
+IsValid settings past (m ∷ ms) = MayStart settings past m.start × IsValid settings (past_after past m) ms
+
+-- the least moment at which a turn may start
+pub record IsLeastStart (settings : Settings) (past : Past) (start : ℕ) : Type 0 where
+  pub may : MayStart settings past start
+  pub least : (other : ℕ) → MayStart settings past other → start ≤ other
+
+-- each turn in order starts as soon as it may
+abbrev pub IsChosen : Settings → Past → List Timed → Type 0
+IsChosen settings past [] = Unit {0}
+IsChosen settings past (m ∷ ms) = IsLeastStart settings past m.start × IsChosen settings (past_after past m) ms

@@ -1,0 +1,17 @@
+//! What streams come to.
+
+ghost use Rattle.std.specs.Prelude.{◌≡◌, ℕ, List};
+ghost use Rattle.life_plane.specs.Plane.{run, nothing};
+ghost use Rattle.life_cells.specs.declared.cell.Cell.{Cell};
+ghost use Rattle.book_parts.specs.Limits.{AreProper};
+ghost use Rattle.book_parts.specs.declared.settings.Settings.{Settings};
+ghost use Rattle.book_parts.specs.declared.kind.RawKind.{RawKind};
+ghost use Rattle.stream_time.specs.Schedule.{Timed};
+ghost use Rattle.stream_time.specs.Pattern.{pattern, last_end};
+ghost use Rattle.stream_time.specs.Closing.{IsClosingStream};
+
+/// A stream of moves and a closing turn, whatever their number, leaves nothing at its last end.
+pub fn closing_streams_vanish()
+    ensures { (settings : Settings) → AreProper settings → (kinds : List RawKind) (start : ℕ) (turns : List Timed) (back : Cell) →
+        IsClosingStream settings kinds start turns → run (last_end turns) (pattern settings kinds start turns back) ≡ nothing }
+{}
