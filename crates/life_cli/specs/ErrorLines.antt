@@ -1,0 +1,136 @@
+-- The lines on standard error.
+use Rattle.std.specs.Prelude.{◌≡◌, ◌≢◌, ◌⊎◌, ℕ, ℤ, List, [], ◌∷◌, ◌++◌, codes}
+use Rattle.std.specs.Fmt.{decimal, signed_decimal}
+use Rattle.std.specs.Io.KnownBytes.{append_known}
+use Rattle.std.specs.declared.option.Option.{Option}
+use Rattle.life_cells.specs.declared.cell.Cell.{Cell}
+use Rattle.life_io.specs.Counts.{Rose}
+use Rattle.life_io.specs.Sinks.{AppendsPrefix}
+use Rattle.life_rle.specs.declared.error.RleError as rle
+use Rattle.book_text.specs.declared.error.BookError as book
+use Rattle.book_text.specs.declared.error.LineFault as fault
+use Rattle.book_text.specs.declared.error.BookWord as setting
+use Rattle.life_cli.specs.declared.words.WordsError as words
+use Rattle.life_cli.specs.declared.status.Which.{Which}
+use Rattle.life_cli.specs.declared.status.Which.TheVariants.{Book, Target}
+use Rattle.life_cli.specs.declared.status.BookRefusal.{BookRefusal}
+use Rattle.life_cli.specs.declared.status.BookRefusal.TheVariants.{KindPlace, KindNotStill, HandNotStill}
+use Rattle.life_cli.specs.declared.status.PlanError.{PlanError}
+use Rattle.life_cli.specs.declared.status.PlanError.TheVariants.{NoClosing}
+use Rattle.life_cli.specs.declared.status.Status.{Status}
+use Rattle.life_cli.specs.declared.status.Status.TheVariants.{Done, Words, ReadFault, TooLong, BadRle, BadBookText, BadBook, NoPlan, WriteFault, Memory}
+
+abbrev pub which_text : Which → List ℕ
+which_text Book = codes "book"
+which_text Target = codes "target"
+
+-- x, a space, y
+abbrev pub cell_text : Cell → List ℕ
+cell_text cell = signed_decimal cell.x ++ (codes " " ++ signed_decimal cell.y)
+
+abbrev pub words_text : words.WordsError → List ℕ
+words_text words.TheVariants.NoCommand = codes "words none"
+words_text (words.TheVariants.Dash place) = codes "words dash " ++ decimal place
+words_text words.TheVariants.UnknownCommand = codes "words unknown"
+words_text words.TheVariants.WrongCount = codes "words count"
+
+-- what is wrong with a pattern's text; the last is no text of a status
+abbrev pub rle_text : rle.RleError → List ℕ
+rle_text rle.TheVariants.NoHeader = codes "no header"
+rle_text (rle.TheVariants.BadHeader line) = codes "header " ++ decimal line
+rle_text (rle.TheVariants.BadRule line) = codes "rule " ++ decimal line
+rle_text (rle.TheVariants.BadItem at) = codes "item " ++ decimal at
+rle_text (rle.TheVariants.BadCount at) = codes "count " ++ decimal at
+rle_text rle.TheVariants.NoEnd = codes "no end"
+rle_text (rle.TheVariants.TooFar at) = codes "far " ++ decimal at
+rle_text (rle.TheVariants.TooMany count) = codes "many " ++ decimal count
+rle_text (rle.TheVariants.NotYet at) = codes "not yet " ++ decimal at
+rle_text rle.TheVariants.Memory = codes "memory"
+
+abbrev pub fault_text : fault.LineFault → List ℕ
+fault_text fault.TheVariants.Version = codes "version"
+fault_text fault.TheVariants.Word = codes "word"
+fault_text fault.TheVariants.Form = codes "form"
+fault_text fault.TheVariants.Number = codes "number"
+fault_text fault.TheVariants.Body = codes "body"
+fault_text fault.TheVariants.Empty = codes "empty"
+
+abbrev pub setting_text : setting.BookWord → List ℕ
+setting_text setting.TheVariants.Approach = codes "approach"
+setting_text setting.TheVariants.Wall = codes "wall"
+setting_text setting.TheVariants.Reach = codes "reach"
+setting_text setting.TheVariants.Corner = codes "corner"
+setting_text setting.TheVariants.Room = codes "room"
+setting_text setting.TheVariants.Span = codes "span"
+setting_text setting.TheVariants.Lanes = codes "lanes"
+setting_text setting.TheVariants.Delays = codes "delays"
+setting_text setting.TheVariants.Hand = codes "hand"
+setting_text setting.TheVariants.Elbow = codes "elbow"
+setting_text setting.TheVariants.Start = codes "start"
+
+-- what is wrong with a book's text; the last is no text of a status
+abbrev pub book_text : book.BookError → List ℕ
+book_text (book.TheVariants.BadLine line why) = codes "line " ++ (decimal line ++ (codes " " ++ fault_text why))
+book_text (book.TheVariants.Doubled line) = codes "doubled " ++ decimal line
+book_text (book.TheVariants.UnknownKind line) = codes "kind " ++ decimal line
+book_text (book.TheVariants.LimitOver line number) = codes "limit " ++ (decimal line ++ (codes " " ++ signed_decimal number))
+book_text (book.TheVariants.Missing word) = codes "missing " ++ setting_text word
+book_text (book.TheVariants.WallReach wall reach) = codes "reach " ++ (signed_decimal wall ++ (codes " " ++ signed_decimal reach))
+book_text (book.TheVariants.NotYet line) = codes "not yet " ++ decimal line
+book_text book.TheVariants.Memory = codes "memory"
+
+abbrev pub refusal_text : BookRefusal → List ℕ
+refusal_text (KindPlace kind cell) = codes "kind " ++ (decimal kind ++ (codes " place " ++ cell_text cell))
+refusal_text (KindNotStill kind cell) = codes "kind " ++ (decimal kind ++ (codes " moves " ++ cell_text cell))
+refusal_text (HandNotStill cell) = codes "hand moves " ++ cell_text cell
+
+abbrev pub plan_text : PlanError → List ℕ
+plan_text (NoClosing kind shift) = codes "no closing " ++ (decimal kind ++ (codes " " ++ signed_decimal shift))
+
+-- the text of a status; Done and Memory have none
+abbrev pub status_text : Status → List ℕ
+status_text Done = []
+status_text (Words e) = words_text e
+status_text ReadFault = codes "read fault"
+status_text (TooLong which) = which_text which ++ codes " too long"
+status_text (BadRle which e) = which_text which ++ (codes " " ++ rle_text e)
+status_text (BadBookText e) = codes "book " ++ book_text e
+status_text (BadBook e) = refusal_text e
+status_text (NoPlan e) = plan_text e
+status_text WriteFault = codes "write fault"
+status_text Memory = []
+
+-- the line of a status
+abbrev pub error_line : Status → List ℕ
+error_line status = codes "life: " ++ (status_text status ++ (10 ∷ []))
+
+-- Done and Memory have no line
+abbrev pub HasLine : Status → Type 0
+HasLine status = (status ≢ Done) × (status ≢ Memory)
+
+-- what a status becomes where there is no memory for its line: a write fault stays
+abbrev pub without_line : Status → Status
+without_line Done = Memory
+without_line (Words e) = Memory
+without_line ReadFault = Memory
+without_line (TooLong which) = Memory
+without_line (BadRle which e) = Memory
+without_line (BadBookText e) = Memory
+without_line (BadBook e) = Memory
+without_line (NoPlan e) = Memory
+without_line WriteFault = WriteFault
+without_line Memory = Memory
+
+-- What standard error gains: nothing at Done and at want of memory; a first part of the line where the status is WriteFault or the sink's
+-- count of faults rose; else the whole line.
+abbrev pub Gains : Option (List ℕ) → Option (List ℕ) → ℕ → ℕ → Status → Type 0
+Gains old new before now Done = new ≡ old
+Gains old new before now (Words e) = (new ≡ append_known old (error_line (Words e))) ⊎ (Rose before now × AppendsPrefix old new (error_line (Words e)))
+Gains old new before now ReadFault = (new ≡ append_known old (error_line ReadFault)) ⊎ (Rose before now × AppendsPrefix old new (error_line ReadFault))
+Gains old new before now (TooLong which) = (new ≡ append_known old (error_line (TooLong which))) ⊎ (Rose before now × AppendsPrefix old new (error_line (TooLong which)))
+Gains old new before now (BadRle which e) = (new ≡ append_known old (error_line (BadRle which e))) ⊎ (Rose before now × AppendsPrefix old new (error_line (BadRle which e)))
+Gains old new before now (BadBookText e) = (new ≡ append_known old (error_line (BadBookText e))) ⊎ (Rose before now × AppendsPrefix old new (error_line (BadBookText e)))
+Gains old new before now (BadBook e) = (new ≡ append_known old (error_line (BadBook e))) ⊎ (Rose before now × AppendsPrefix old new (error_line (BadBook e)))
+Gains old new before now (NoPlan e) = (new ≡ append_known old (error_line (NoPlan e))) ⊎ (Rose before now × AppendsPrefix old new (error_line (NoPlan e)))
+Gains old new before now WriteFault = AppendsPrefix old new (error_line WriteFault)
+Gains old new before now Memory = new ≡ old

@@ -1,0 +1,10 @@
+-- What the program answers.
+pub mod Words
+pub mod Book
+pub mod Causes
+pub mod Compiled
+pub mod Built
+pub mod Statuses
+pub mod Run
+pub mod ErrorLines
+pub mod Complete

@@ -1,0 +1,43 @@
+-- The words of the command line.
+use Rattle.std.specs.Prelude.{◌≡◌, ◌≢◌, ℕ, ◌+◌, ◌==◌, Bool, true, false, List, [], ◌∷◌, length, codes, map}
+use Rattle.std.specs.Prelude.{String}
+use Rattle.std.specs.declared.alloc.Global.{Global}
+use Rattle.std.specs.List.{position}
+use Rattle.std.specs.String.{string_bytes}
+use Rattle.std.specs.declared.option.Option.{Option}
+use Rattle.std.specs.declared.option.Option.TheVariants.{Some, None}
+use Rattle.life_cli.specs.declared.words.WordsError.{WordsError}
+use Rattle.life_cli.specs.declared.words.WordsError.TheVariants.{NoCommand, Dash, UnknownCommand, WrongCount}
+
+abbrev pub Words : Type 0
+Words = List (String Global)
+
+-- a text that begins with `-`
+abbrev pub has_dash : List ℕ → Bool
+has_dash [] = false
+has_dash (b ∷ bs) = b == 45
+
+-- the place of the first word that begins with `-`, counted from 0
+abbrev pub first_dash : Words → Option ℕ
+first_dash words = position (λ (word : String Global). has_dash (string_bytes word)) words
+
+-- the words as texts
+abbrev pub texts_of : Words → List (List ℕ)
+texts_of words = map (λ (word : String Global). string_bytes word) words
+
+-- `compile BOOK TARGET`
+pub record IsCompile (words : Words) (book target : List ℕ) : Type 0 where
+  pub whole : texts_of words ≡ codes "compile" ∷ (book ∷ (target ∷ []))
+  pub plain : first_dash words ≡ None
+
+-- no word begins with `-`, and the first is such, with so many behind it
+pub record BeginsWith (words : Words) (first : List ℕ) (rest : List (List ℕ)) : Type 0 where
+  pub whole : texts_of words ≡ first ∷ rest
+  pub plain : first_dash words ≡ None
+
+-- the words are refused so; places count from 1
+abbrev pub AreRefused : Words → WordsError → Type 0
+AreRefused words NoCommand = words ≡ []
+AreRefused words (Dash place) = (before : ℕ) × ((first_dash words ≡ Some before) × (place ≡ before + 1))
+AreRefused words UnknownCommand = (first : List ℕ) × ((rest : List (List ℕ)) × (BeginsWith words first rest × (first ≢ codes "compile")))
+AreRefused words WrongCount = (rest : List (List ℕ)) × (BeginsWith words (codes "compile") rest × (length rest ≢ 2))

@@ -1,0 +1,84 @@
+//! The texts of a command, fetched and read.
+
+ghost use Rattle.std.specs.Prelude.{◌≡◌, ◌≢◌, IfOk, IfErr, IfSome};
+ghost use Rattle.life_cells.specs.Cells.{alive};
+ghost use Rattle.life_io.specs.Counts.{IsLaterCount};
+ghost use Rattle.life_io.specs.Texts.{Holds};
+ghost use Rattle.life_rle.specs.Text.{Means};
+ghost use Rattle.book_text.specs.FirstForm.{Said, IsBook};
+ghost use Rattle.life_plane.specs.Plane.{nothing};
+ghost use Rattle.life_cli.specs.Book.{ReadsAsBook, IsReadable};
+ghost use Rattle.life_cli.specs.Causes.{HoldsBook, HoldsPattern, BookTextIsRefused, PatternTextIsRefused, BookReadingIsRefused, PatternReadingIsRefused};
+
+use crate::fetch::fetch_text;
+use crate::status::{Status, Which};
+use book_parts::RawBook;
+use book_text::{BookError, read_book};
+use life_io::Depot;
+use life_rle::{Pattern, RleError, read_rle};
+use std::alloc::Global;
+
+// The book of a text.
+fn book_of(alloc: Global, text: &[u8]) -> Result<RawBook, Status>
+    ensures ok { IfOk result (λ book. (said : Said) × (ReadsAsBook text.now said × IsBook said book)) }
+    ensures err { IfErr result (λ status. BookTextIsRefused text.now status) }
+{
+    match read_book(alloc, text) {
+        Ok(book) => Ok(book),
+        Err(BookError::Memory) => Err(Status::Memory),
+        Err(fault) => Err(Status::BadBookText(fault)),
+    }
+}
+
+// The pattern of the target's text.
+fn target_of(alloc: Global, text: &[u8]) -> Result<Pattern, Status>
+    ensures ok { IfOk result (λ target. Means text.now (alive target.cells)) }
+    ensures empty { IfOk result (λ target. alive target.cells ≡ nothing) }
+    ensures err { IfErr result (λ status. PatternTextIsRefused text.now status) }
+{
+    match read_rle(alloc, text) {
+        Ok(target) => Ok(target),
+        Err(RleError::Memory) => Err(Status::Memory),
+        Err(fault) => Err(Status::BadRle {
+            which: Which::Target,
+            fault,
+        }),
+    }
+}
+
+/// The book of a name.
+pub(crate) fn fetch_book<D: Depot>(
+    alloc: Global,
+    depot: &mut D,
+    name: &str,
+) -> Result<RawBook, Status>
+    ensures ok { IfOk result (λ book. (said : Said) × (IsBook said book × (IsReadable said × IfSome (D.texts depot.old) (λ texts. HoldsBook texts name.now said)))) }
+    ensures err { IfErr result (λ status. BookReadingIsRefused (D.texts depot.old) name.now (D.faults depot.old) (D.faults depot.new) status) }
+    ensures texts_stay { D.texts depot.new ≡ D.texts depot.old }
+    ensures count { IsLaterCount (D.faults depot.old) (D.faults depot.new) }
+    ensures no_fault { result ≢ Err Status.ReadFault → D.faults depot.new ≡ D.faults depot.old }
+    ensures quiet_stays { D.quiet depot.old → D.quiet depot.new }
+    ensures quiet_serves { D.quiet depot.old → Holds (D.texts depot.old) name.now → result ≢ Err Status.ReadFault }
+{
+    let text = fetch_text(alloc, depot, name, Which::Book)?;
+    book_of(alloc, &text)
+}
+
+/// The pattern of a name, which stands for the target.
+pub(crate) fn fetch_target<D: Depot>(
+    alloc: Global,
+    depot: &mut D,
+    name: &str,
+) -> Result<Pattern, Status>
+    ensures ok { IfOk result (λ target. IfSome (D.texts depot.old) (λ texts. HoldsPattern texts name.now (alive target.cells))) }
+    ensures empty { IfOk result (λ target. alive target.cells ≡ nothing) }
+    ensures err { IfErr result (λ status. PatternReadingIsRefused (D.texts depot.old) name.now (D.faults depot.old) (D.faults depot.new) status) }
+    ensures texts_stay { D.texts depot.new ≡ D.texts depot.old }
+    ensures count { IsLaterCount (D.faults depot.old) (D.faults depot.new) }
+    ensures no_fault { result ≢ Err Status.ReadFault → D.faults depot.new ≡ D.faults depot.old }
+    ensures quiet_stays { D.quiet depot.old → D.quiet depot.new }
+    ensures quiet_serves { D.quiet depot.old → Holds (D.texts depot.old) name.now → result ≢ Err Status.ReadFault }
+{
+    let text = fetch_text(alloc, depot, name, Which::Target)?;
+    target_of(alloc, &text)
+}
