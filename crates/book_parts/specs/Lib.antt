@@ -1,2 +1,4 @@
 -- The parts of a recipe book.
 pub mod Limits
+pub mod Proper
+pub mod Kinds

@@ -1,8 +1,7 @@
 -- The limits of what a book says, each in one place.
-use Rattle.std.specs.Prelude.{◌≡◌, ℕ, ◌≤◌, ◌^◌, ℤ, pos, neg_ℤ, ◌≤ℤ◌, ◌+ℤ◌, ◌*ℤ◌, List, ◌∷◌, length, ◌⊎◌, codes, ◌≢◌, Bool, true, false, ◌&&◌, ◌||◌, nat_le, ◌==◌, []}
+use Rattle.std.specs.Prelude.{◌≡◌, ℕ, ◌≤◌, ◌^◌, ℤ, pos, neg_ℤ, ◌≤ℤ◌, ◌+ℤ◌, ◌*ℤ◌, List, ◌∷◌, length, codes, ◌≢◌, Bool, true, false, ◌&&◌, ◌||◌, nat_le, ◌==◌, []}
 use Rattle.std.specs.List.{list_all}
 use Rattle.life_plane.specs.Plane.{Plane}
-use Rattle.life_cells.specs.declared.cell.Cell.{Cell}
 use Rattle.book_parts.specs.declared.settings.Settings.{Settings}
 use Rattle.book_parts.specs.declared.settings.Range.{Range}
 

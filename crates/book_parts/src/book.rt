@@ -7,7 +7,7 @@ use crate::turn::RawTurn;
 use life_cells::CellSet;
 
 /// A book, as a text states it.
-#[derive(Debug, Drop)]
+#[derive(Debug, Drop, PartialEq, Eq)]
 pub struct RawBook {
     /// What holds for all of it.
     pub settings: Settings,

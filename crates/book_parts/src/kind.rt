@@ -4,7 +4,7 @@ use crate::name::Name;
 use life_cells::CellSet;
 
 /// A kind of elbow, as a book states it.
-#[derive(Debug, Drop)]
+#[derive(Debug, Drop, PartialEq, Eq)]
 pub struct RawKind {
     /// Its name.
     pub name: Name,

@@ -46,6 +46,27 @@ impl Name {
     }
 }
 
+impl PartialEq for Name {
+    ghost use Rattle.std.specs.Prelude.{nat_eq};
+    ghost use Rattle.std.specs.Cmp.Lexicographic.{pointwise};
+    ghost use Rattle.std.specs.Cmp.{partial_equiv_from_equiv};
+    ghost use Rattle.std.proofs.lemmas.Cmp.{nat_list_eq_equiv};
+
+    ghost eq = { pointwise nat_eq };
+
+    ghost laws = { partial_equiv_from_equiv nat_list_eq_equiv };
+
+    fn eq(&self, other: &Name) -> bool {
+        self.text() == other.text()
+    }
+}
+
+impl Eq for Name {
+    ghost use Rattle.std.proofs.lemmas.Cmp.{nat_list_eq_equiv};
+
+    ghost laws = { nat_list_eq_equiv };
+}
+
 #[cfg(test)]
 mod tests {
     use super::*;
@@ -56,7 +77,10 @@ mod tests {
         for text in ["block", "k_1"] {
             let name = Name::from_text(rt.alloc(), text)?;
             assert_eq!(rt; name.text(), text);
-            assert_eq!(rt; name.copy()?.text(), text);
+            let copy = name.copy()?;
+            assert_eq!(rt; copy.text(), text);
+            assert!(rt; copy == name);
+            assert!(rt; copy != Name::from_text(rt.alloc(), "other")?);
         }
         Ok(())
     }

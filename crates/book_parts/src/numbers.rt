@@ -46,6 +46,27 @@ impl Numbers {
     }
 }
 
+impl PartialEq for Numbers {
+    ghost use Rattle.std.specs.Ordering.{int_eq};
+    ghost use Rattle.std.specs.Cmp.Lexicographic.{pointwise, lists_equiv};
+    ghost use Rattle.std.specs.Cmp.{partial_equiv_from_equiv, int_eq_equiv};
+
+    ghost eq = { pointwise int_eq };
+
+    ghost laws = { partial_equiv_from_equiv (lists_equiv int_eq_equiv) };
+
+    fn eq(&self, other: &Numbers) -> bool {
+        self.items() == other.items()
+    }
+}
+
+impl Eq for Numbers {
+    ghost use Rattle.std.specs.Cmp.Lexicographic.{lists_equiv};
+    ghost use Rattle.std.specs.Cmp.{int_eq_equiv};
+
+    ghost laws = { lists_equiv int_eq_equiv };
+}
+
 #[cfg(test)]
 mod tests {
     use super::*;
@@ -56,7 +77,10 @@ mod tests {
         for items in [[0, 50].as_slice(), [-3, 7, 7].as_slice()] {
             let numbers = Numbers::from_slice(rt.alloc(), items)?;
             assert_eq!(rt; numbers.items(), items);
-            assert_eq!(rt; numbers.copy()?.items(), items);
+            let copy = numbers.copy()?;
+            assert_eq!(rt; copy.items(), items);
+            assert!(rt; copy == numbers);
+            assert!(rt; copy != Numbers::from_slice(rt.alloc(), &[0, 51])?);
         }
         Ok(())
     }

@@ -5,7 +5,7 @@ use crate::numbers::Numbers;
 use life_cells::{Cell, CellSet};
 
 /// A salvo, as a book states it.
-#[derive(Debug, Drop)]
+#[derive(Debug, Drop, PartialEq, Eq)]
 pub struct RawSalvo {
     /// Its name.
     pub name: Name,

@@ -23,7 +23,7 @@ pub enum TurnEnd {
 }
 
 /// A turn, as a book states it.
-#[derive(Debug, Drop)]
+#[derive(Debug, Drop, PartialEq, Eq)]
 pub struct RawTurn {
     /// Its name.
     pub name: Name,

@@ -1,0 +1,14 @@
+//! Where a hit takes place.
+
+use life_cells::Bounds;
+
+/// A hit at the hand, as a book's frame sees it.
+#[derive(Clone, Copy, Debug, PartialEq, Eq)]
+pub struct HitFrame {
+    /// The lane of its glider.
+    pub lane: i64,
+    /// The quarter of its glider's index at which it begins.
+    pub start: i64,
+    /// The bounds of all its cells.
+    pub bounds: Bounds,
+}
