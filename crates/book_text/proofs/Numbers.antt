@@ -8,7 +8,7 @@ use Rattle.std.proofs.lemmas.Int.{ints, to_z-of_z}
 use lib.IntN.{nat_abs}
 use Rattle.book_parts.specs.Limits.{IsFrom, IsApproach}
 use Rattle.book_text.specs.Fields.{fields, IsNumber, BeginsWithNumber}
-use Rattle.book_text.specs.FirstForm.{SaysRange}
+use Rattle.book_text.specs.Settings.{SaysRange}
 use Rattle.book_text.specs.Reading.{IsRange}
 
 -- digits begin with no '-'
@@ -26,6 +26,14 @@ one_number text z w (inr a) (inr b) =
     let spelled_too = b.1.1.1.0.is in
     let e : a.1.0 ≡ b.1.0 = cc in
     a.1.1.1.1 ∙ ap (λ (n : ℕ). neg_ℤ (pos n)) e ∙ sym b.1.1.1.1
+
+-- fields begin with one number at most
+pub one_begins : (parts : List (List ℕ)) (z w : ℤ) (more others : List (List ℕ)) → BeginsWithNumber parts z more → BeginsWithNumber parts w others → (z ≡ w) × (more ≡ others)
+one_begins parts z w more others a b =
+    let first = a.is in
+    let second = b.is in
+    let text : a.text ≡ b.text = cc in
+    (one_number b.text z w (subst (λ (t : List ℕ). IsNumber t z) text a.number) b.number, cc)
 
 -- a multiple of 4 within the limits
 pub approach_is : (z : ℤ) → IsFrom (pos 20) (pos 4096) z → of_z w64 (rem_z z (pos 4)) ≡ 0 → IsApproach z

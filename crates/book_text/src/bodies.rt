@@ -5,7 +5,7 @@ ghost use Rattle.life_plane.specs.Plane.{Plane};
 ghost use Rattle.life_cells.specs.Cells.{alive, in_order};
 ghost use Rattle.life_cells.specs.Boxes.{IsInRange};
 ghost use Rattle.book_parts.specs.Limits.{IsPlaced};
-ghost use Rattle.book_text.specs.FirstForm.{SaysBody};
+ghost use Rattle.book_text.specs.Bodies.{SaysBody};
 
 use crate::settings::FARTHEST;
 use life_cells::{CellSet, NoMemory};

@@ -24,46 +24,84 @@ pub enum LineFault {
     Empty,
 }
 
-/// A word that a book has exactly once.
+/// A word that every book has.
 #[derive(Clone, Copy, Debug, PartialEq, Eq)]
 pub enum BookWord {
+    /// How far before a turn's frame its first glider stands.
     Approach,
+    /// The greatest u of a kind.
     Wall,
+    /// The greatest u of a turn's reaction.
     Reach,
+    /// Where the target's lower left corner is built.
     Corner,
+    /// The margin of hand places about the target.
     Room,
+    /// The greatest absolute shift of the elbow.
     Span,
+    /// The finder's lanes.
     Lanes,
+    /// The finder's gaps between delays.
     Delays,
+    /// The hand.
     Hand,
+    /// The kinds of elbow: one line each, and at least one.
     Elbow,
+    /// The kind that the stream begins at.
     Start,
 }
 
-/// Why a book is not read.
+/// Why a book is not read. Lines count from 1.
 #[derive(Clone, Copy, Debug, PartialEq, Eq, Error)]
 pub enum BookError {
     /// A line has another form.
     #[error("bad line {line}")]
-    BadLine { line: u64, why: LineFault },
+    BadLine {
+        /// The line.
+        line: u64,
+        /// What is wrong in it.
+        why: LineFault,
+    },
     /// A word or a name comes again.
     #[error("line {line} comes again")]
-    Doubled { line: u64 },
+    Doubled {
+        /// The line with which it comes again.
+        line: u64,
+    },
     /// A line names a kind that no earlier line defines.
     #[error("unknown kind in line {line}")]
-    UnknownKind { line: u64 },
+    UnknownKind {
+        /// The line that names it.
+        line: u64,
+    },
     /// A number or a count passes its limit.
     #[error("limit passed in line {line} by {number}")]
-    LimitOver { line: u64, number: i64 },
+    LimitOver {
+        /// The line with which it does.
+        line: u64,
+        /// The number or the count.
+        number: i64,
+    },
     /// A word that every book has is missing.
     #[error("a setting is missing")]
-    Missing { word: BookWord },
-    /// The reach is too near the wall.
+    Missing {
+        /// The first such word.
+        word: BookWord,
+    },
+    /// The reach is too near the wall: less than 9 past it.
     #[error("reach {reach} is too near the wall {wall}")]
-    WallReach { wall: i64, reach: i64 },
+    WallReach {
+        /// The wall: the greatest u of a kind.
+        wall: i64,
+        /// The reach: the greatest u of a turn's reaction.
+        reach: i64,
+    },
     /// A form that is not read yet.
     #[error("not yet read from line {line} on")]
-    NotYet { line: u64 },
+    NotYet {
+        /// The first line that is not of its form in its place, passes a limit, or is missing.
+        line: u64,
+    },
     /// No memory.
     #[error("no memory")]
     Memory,

@@ -2,9 +2,11 @@
 #![tactic(auto)]
 
 mod bodies;
-mod entries;
+mod ending;
 pub mod error;
 mod fields;
+mod head;
+mod kinds;
 pub mod laws;
 mod lines;
 mod name;
@@ -12,6 +14,7 @@ mod number;
 pub mod read;
 mod settings;
 mod split;
+mod turns;
 
 pub use error::{BookError, BookWord, LineFault};
 pub use read::read_book;

@@ -1,6 +1,6 @@
 //! The lines of a text. A line ends in a line feed, which the last line may lack; a carriage return before it is dropped.
 
-ghost use Rattle.std.specs.Prelude.{◌≡◌, ◌<◌, ◌∷◌, length, map, take, IfOk};
+ghost use Rattle.std.specs.Prelude.{◌≡◌, ◌<◌, ◌∷◌, length, map, take, drop, IfOk};
 ghost use Rattle.std.specs.Str.Lines.{lines, strip_carriage_return};
 ghost use Rattle.book_text.specs.Fields.{texts, line_at};
 
@@ -33,6 +33,16 @@ pub fn line_at<'a>(lines: &[&'a [u8]], index: usize) -> &'a [u8]
         Some(line) => line,
         None => &[],
     }
+}
+
+/// The lines from an index on, counted from 0; none where there are fewer.
+pub fn lines_from<'a, 'b>(lines: &'b [&'a [u8]], index: usize) -> &'b [&'a [u8]]
+    ensures { texts result.now ≡ drop index (texts lines.now) }
+{
+    if index >= lines.len() {
+        return &[];
+    }
+    &lines[index..]
 }
 
 /// The line that a text begins with, and what follows it.

@@ -3,7 +3,7 @@
 ghost use Rattle.std.specs.Prelude.{◌≡◌, codes, pos, neg_ℤ, ◌^◌, ◌≤◌, ◌<◌, ◌≤ℤ◌, ◌↔◌, IfOk, IfErr, IsTrue};
 ghost use Rattle.book_parts.specs.Limits.{IsFrom, IsApproach, IsCoordinate, AreLanes, AreGaps};
 ghost use Rattle.book_text.specs.Fields.{Reads, texts};
-ghost use Rattle.book_text.specs.FirstForm.{SaysNumber, SaysPair, SaysRange};
+ghost use Rattle.book_text.specs.Settings.{SaysNumber, SaysPair, SaysRange};
 ghost use Rattle.book_text.specs.Reading.{IsRange, AreSettings, StopsIn};
 
 use crate::error::BookError;

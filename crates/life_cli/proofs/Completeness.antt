@@ -1,47 +1,105 @@
--- A run that is due is not refused.
-use Rattle.std.specs.Prelude.{◌≡◌, ◌≢◌, ℕ, ◌+◌, ◌<◌, ◌≤◌, ◌^◌, true, Bool, ℤ, pos, ◌+ℤ◌, ◌≤ℤ◌, List, [], ◌∷◌, length, IfSome, codes}
+-- A run of which no step refuses is done, but for want of memory and counted faults.
+use Rattle.std.specs.Prelude.{◌≡◌, ◌≢◌, ℕ, pos, ◌+ℤ◌, ◌≤ℤ◌, List, [], ◌∷◌, length, codes, IfSome}
 use Rattle.std.specs.declared.option.Option.{Option}
 use Rattle.std.specs.declared.option.Option.TheVariants.{Some, None}
-use Rattle.std.proofs.Common.{refl, sym, ap, subst, ◌∙◌, arith}
-use Rattle.life_plane.specs.Plane.{Plane, IsStill, nothing, step}
-use Rattle.life_cells.specs.Cells.{alive}
+use Rattle.std.proofs.Common.{sym, ap, subst, ◌∙◌, arith, inl, inr}
+use Rattle.std.specs.Str.Parse.{digits_value}
+use Rattle.life_plane.specs.Plane.{Plane, IsStill, nothing}
+use Rattle.life_cells.specs.Cells.{Cells, alive}
 use Rattle.life_cells.specs.declared.cell.Cell.{Cell}
 use Rattle.life_io.specs.Texts.{HeldText, text_of}
-use Rattle.life_rle.specs.PlainText.{IsPlainText, TextStopsWith}
+use Rattle.life_rle.specs.Text.{Means}
+use Rattle.life_rle.specs.TextFaults.{IsFineText, TextStopsWith}
 use Rattle.life_rle.specs.declared.error.RleError as rle
-use Rattle.book_text.specs.FirstForm.{Said, Says, StopsWith}
+use Rattle.book_parts.specs.declared.settings.Settings.{Settings}
+use Rattle.book_parts.specs.declared.kind.RawKind.{RawKind}
+use Rattle.book_parts.specs.declared.turn.RawTurn.{RawTurn}
+use Rattle.book_text.specs.Book.{Said, Says, StopsWith}
 use Rattle.book_text.specs.declared.error.BookError as book
-use Rattle.recipe_turn.specs.Kind.{AreInPlace, IsFirstOutOfPlace, IsFirstChange}
-use Rattle.recipe_turn.specs.Turn.{IsSound}
+use Rattle.recipe_turn.specs.Checked.{AreValid}
+use Rattle.recipe_turn.specs.Elbows.{HasStates}
+use Rattle.recipe_book.specs.Checked.{most_states}
+use Rattle.recipe_book.specs.Entries.{AreTheSound}
+use Rattle.recipe_book.specs.Refusals.{BookIsRefused}
+use Rattle.recipe_book.specs.declared.refusal.BookRefusal as check
+use Rattle.stream_time.specs.declared.building.PlanError.TheVariants.{NoClosing}
+use Rattle.stream_time.specs.Built as plan
 use Rattle.life_cli.specs.declared.words.WordsError.{WordsError}
 use Rattle.life_cli.specs.declared.words.WordsError.TheVariants as refusal
-use Rattle.life_cli.specs.declared.status.Which.TheVariants.{Book, Target}
-use Rattle.life_cli.specs.declared.status.BookRefusal.TheVariants.{KindPlace, KindNotStill, HandNotStill}
-use Rattle.life_cli.specs.declared.status.PlanError.TheVariants.{NoClosing}
+use Rattle.life_cli.specs.declared.status.Which.TheVariants.{Book, Target, Pattern}
 use Rattle.life_cli.specs.declared.status.Status.{Status}
-use Rattle.life_cli.specs.declared.status.Status.TheVariants.{Done, Words, ReadFault, TooLong, BadRle, BadBookText, BadBook, NoPlan, WriteFault, Memory}
+use Rattle.life_cli.specs.declared.status.Status.TheVariants.{Done, Words, ReadFault, TooLong, BadRle, BadBookText, BadBook, NoPlan, StreamLong, WriteFault, Memory, NotYet}
 use Rattle.life_cli.specs.Words as command
-use Rattle.life_cli.specs.Words.{IsCompile, AreRefused, texts_of}
-use Rattle.life_cli.specs.Book.{turn_of, ReadsAsBook}
-use Rattle.life_cli.specs.Causes.{IsHeld, IsLong, HoldsBook, BuildingIsRefused, CompilingIsRefused}
-use Rattle.life_cli.specs.Run.{Ends}
-use Rattle.life_cli.specs.Complete.{IsDue, IsDoneBut}
+use Rattle.life_cli.specs.Words.{IsCompile, IsReplay, IsGenerations, AreRefused, texts_of}
+use Rattle.life_cli.specs.Requests.{Request, Ask}
+use Rattle.life_cli.specs.Requests.Request.{Compile, Replay}
+use Rattle.life_cli.specs.Causes.{IsHeld, IsLong, HoldsBook, IsFirstLive, PlanningIsRefused, BuildingIsRefused, CompilingIsRefused, ReplayingIsRefused}
+use Rattle.life_cli.specs.Run.{IsRefused, HasNoAnswer, Ends}
+use Rattle.life_cli.specs.Complete.{HoldsFine, IsBuildable, HasNoRefusal, IsDue, IsDoneBut}
 
--- the laws of the readers: a text says one book; one that is read has no refusal
-pub record ReadersAreExact : Type 0 where
+-- the laws of the parts: a text says one book and means one plane, one that is read has no refusal, and neither has a book that passes its tests
+pub record PartsAreExact : Type 0 where
   pub one_book : (text : List ℕ) (a b : Said) → Says text a → Says text b → a ≡ b
-  pub no_refusal : (text : List ℕ) (said : Said) (e : book.BookError) → Says text said → (said.settings.wall +ℤ pos 9) ≤ℤ said.settings.reach → StopsWith text e → e ≡ book.TheVariants.Memory
-  pub plain : (text : List ℕ) (e : rle.RleError) → IsPlainText text → TextStopsWith text e → e ≢ rle.TheVariants.Memory → ⊥
+  pub book_read : (text : List ℕ) (said : Said) (e : book.BookError) → Says text said → (said.settings.wall +ℤ pos 9) ≤ℤ said.settings.reach → StopsWith text e → e ≡ book.TheVariants.Memory
+  pub one_plane : (text : List ℕ) (s t : Plane) → Means text s → Means text t → s ≡ t
+  pub pattern_read : (text : List ℕ) (e : rle.RleError) → IsFineText text → TextStopsWith text e → e ≢ rle.TheVariants.Memory → ⊥
+  pub one_list : (settings : Settings) (kinds : List RawKind) (turns a b : List RawTurn) → AreTheSound settings kinds turns a → AreTheSound settings kinds turns b → a ≡ b
+  pub book_taken : (settings : Settings) (hand : Cells) (kinds : List RawKind) (start : ℕ) (turns sound : List RawTurn) (count : ℕ) (e : check.BookRefusal) →
+      AreValid settings kinds → IsStill (alive hand) → AreTheSound settings kinds turns sound → HasStates sound start settings.span most_states count →
+      BookIsRefused settings hand kinds start turns e → e ≡ check.TheVariants.Memory
 
-words_read : (ws : command.Words) (b t : List ℕ) (e : WordsError) → IsCompile ws b t → AreRefused ws e → ⊥
-words_read ws b t refusal.NoCommand c r = let none = ap texts_of r in let whole = c.whole in cc
-words_read ws b t (refusal.Dash place) c r = let plain = c.plain in let found = r.1.0 in cc
-words_read ws b t refusal.UnknownCommand c r = let whole = c.whole in let other = r.1.1.0.whole in r.1.1.1 (cc)
-words_read ws b t refusal.WrongCount c r =
+-- ---- words
+
+named : (ws : command.Words) (name : List ℕ) (rest : List (List ℕ)) → texts_of ws ≡ name ∷ rest → ws ≡ [] → ⊥
+named ws name rest whole none = let no_texts = ap texts_of none in cc
+
+compile_read : (ws : command.Words) (b t : List ℕ) (e : WordsError) → IsCompile ws b t → AreRefused ws e → ⊥
+compile_read ws b t refusal.NoCommand c r = named ws _ _ c.whole r
+compile_read ws b t (refusal.Dash place) c r = let plain = c.plain in let found = r.1.0 in cc
+compile_read ws b t refusal.UnknownCommand c r = let whole = c.whole in let other = r.1.1.0.whole in let same : r.0 ≡ codes "compile" = cc in r.1.1.1 (inl same)
+compile_read ws b t refusal.WrongCount c r =
     let whole = c.whole in
-    let other = r.1.0.whole in
-    let rest : r.0 ≡ b ∷ (t ∷ []) = cc in
-    r.1.1 (ap length rest)
+    let other = r.1.1.0.whole in
+    let rest : r.1.0 ≡ b ∷ (t ∷ []) = cc in
+    r.1.1.1.1 (ap length rest)
+compile_read ws b t (refusal.BadNumber place) c r = let whole = c.whole in let other = r.1.1.1.0.whole in let same : codes "compile" ≡ codes "replay" = cc in cc
+
+replay_read : (ws : command.Words) (p : List ℕ) (n : ℕ) (e : WordsError) → IsReplay ws p n → AreRefused ws e → ⊥
+replay_read ws p n refusal.NoCommand c r = named ws _ _ c.names.whole r
+replay_read ws p n (refusal.Dash place) c r = let plain = c.names.plain in let found = r.1.0 in cc
+replay_read ws p n refusal.UnknownCommand c r = let whole = c.names.whole in let other = r.1.1.0.whole in let same : r.0 ≡ codes "replay" = cc in r.1.1.1 (inr same)
+replay_read ws p n refusal.WrongCount c r =
+    let whole = c.names.whole in
+    let other = r.1.1.0.whole in
+    let rest : r.1.0 ≡ p ∷ (c.number ∷ []) = cc in
+    r.1.1.1.1 (ap length rest)
+replay_read ws p n (refusal.BadNumber place) c r =
+    let whole = c.names.whole in
+    let other = r.1.1.1.0.whole in
+    let same : c.number ≡ r.1.1.0 = cc in
+    r.1.1.1.1 n (subst (λ (t : List ℕ). IsGenerations t n) same c.is)
+
+words_read : (ws : command.Words) (request : Request) (e : WordsError) → Ask ws request → AreRefused ws e → ⊥
+words_read ws (Compile b t) e a r = compile_read ws b t e a r
+words_read ws (Replay p n) e a r = replay_read ws p n e a r
+
+-- the words ask for one thing
+one_request : (ws : command.Words) (a b : Request) → Ask ws a → Ask ws b → a ≡ b
+one_request ws (Compile b t) (Compile c u) p q =
+    let x = p.whole in let y = q.whole in
+    let one : b ≡ c = cc in
+    let two : t ≡ u = cc in
+    ap (λ (n : List ℕ). Compile n t) one ∙ ap (λ (n : List ℕ). Compile c n) two
+one_request ws (Compile b t) (Replay r n) p q = let x = p.whole in let y = q.names.whole in let same : codes "compile" ≡ codes "replay" = cc in cc
+one_request ws (Replay r n) (Compile b t) p q = let x = p.names.whole in let y = q.whole in let same : codes "compile" ≡ codes "replay" = cc in cc
+one_request ws (Replay r n) (Replay s m) p q =
+    let x = p.names.whole in let y = q.names.whole in
+    let one : r ≡ s = cc in
+    let text : p.number ≡ q.number = cc in
+    let two : n ≡ m = sym p.is.is ∙ ap (digits_value 10) text ∙ q.is.is in
+    ap (λ (t : List ℕ). Replay t n) one ∙ ap (λ (k : ℕ). Replay s k) two
+
+-- ---- texts
 
 -- one text has a name
 one_text : (texts : List HeldText) (name a b : List ℕ) → text_of texts name ≡ Some a → text_of texts name ≡ Some b → a ≡ b
@@ -55,74 +113,96 @@ not_long texts name text h l =
     let long = l.long in
     absurd (omega arith)
 
-one_said : ReadersAreExact → (texts : List HeldText) (name : List ℕ) (a b : Said) → HoldsBook texts name a → HoldsBook texts name b → a ≡ b
+one_said : PartsAreExact → (texts : List HeldText) (name : List ℕ) (a b : Said) → HoldsBook texts name a → HoldsBook texts name b → a ≡ b
 one_said x texts name a b h k =
     x.one_book h.text a b h.reads.says (subst (λ (t : List ℕ). Says t b) (one_text texts name k.text h.text k.held.held h.held.held) k.reads.says)
 
-changes : (s : Plane) (c : Cell) → IsStill s → IsFirstChange s c → ⊥
-changes s c still first = first.is (ap (λ (p : Plane). p c.x c.y) still)
+fine_read : PartsAreExact → (texts : List HeldText) (name text other : List ℕ) (e : rle.RleError) → IsHeld texts name text → IsFineText text → IsHeld texts name other → TextStopsWith other e → e ≢ rle.TheVariants.Memory → ⊥
+fine_read x texts name text other e h fine k stops is =
+    x.pattern_read text e fine (subst (λ (t : List ℕ). TextStopsWith t e) (one_text texts name other text k.held h.held) stops) is
 
-builds : (said : Said) (status : Status) → AreInPlace said.settings (alive said.kind) → IsStill (alive said.kind) → IsStill (alive said.hand) →
-    IsSound said.settings (alive said.kind) nothing (turn_of said) → BuildingIsRefused said.settings (alive said.kind) (alive said.hand) (turn_of said) status → IsDoneBut status
-builds said (BadBook (KindPlace n c)) place still hand turn r = let f = r.1.is in absurd (f.1 (place.each c.x c.y f.0))
-builds said (BadBook (KindNotStill n c)) place still hand turn r = absurd (changes (alive said.kind) c still r.1.1)
-builds said (BadBook (HandNotStill c)) place still hand turn r = absurd (changes (alive said.hand) c hand r.1.1)
-builds said (NoPlan (NoClosing n s)) place still hand turn r = absurd (r.1.1.1.1.1 turn)
-builds said Memory place still hand turn r = tt
-builds said ReadFault place still hand turn r = tt
-builds said (TooLong which) place still hand turn r = absurd r
-builds said (BadRle which e) place still hand turn r = absurd r
-builds said (BadBookText e) place still hand turn r = absurd r
-builds said Done place still hand turn r = tt
-builds said (Words e) place still hand turn r = absurd r
-builds said WriteFault place still hand turn r = tt
+-- ---- a book and its plan
 
-compiles : ReadersAreExact → (ws : command.Words) (texts : List HeldText) (before now : ℕ) (status : Status) (d : IsDue ws texts) → CompilingIsRefused (Some texts) d.book_name d.target_name before now status → IsDoneBut status
-compiles x ws texts before now ReadFault d r = tt
-compiles x ws texts before now (TooLong Book) d r = absurd (not_long texts d.book_name d.book.text d.book.held r)
-compiles x ws texts before now (TooLong Target) d r = absurd (not_long texts d.target_name d.target_text d.target r.1.1)
-compiles x ws texts before now (BadBookText e) d r =
-    let P : List ℕ → Type 0 = λ t. StopsWith t e in
-    absurd (r.0 (x.no_refusal d.book.text d.said e d.book.reads.says d.book.reads.wide (subst P (one_text texts d.book_name r.1.0 d.book.text r.1.1.0.held d.book.held.held) r.1.1.1)))
-compiles x ws texts before now (BadRle which e) d r =
-    let P : List ℕ → Type 0 = λ t. TextStopsWith t e in
+planned : PartsAreExact → (said : Said) (sound : List RawTurn) (status : Status) (b : IsBuildable said) → AreTheSound said.settings said.kinds said.turns sound → PlanningIsRefused sound said status → IsDoneBut status
+planned x said sound (NoPlan (NoClosing kind shift)) b are r =
+    let same = x.one_list said.settings said.kinds said.turns b.sound sound b.are are in
+    absurd (r.1.1 b.list (subst (λ (ts : List RawTurn). plan.ClosesStart ts said.settings.span said.start b.list) same b.closes))
+planned x said sound (StreamLong count) b are r =
+    let same = x.one_list said.settings said.kinds said.turns sound b.sound are b.are in
+    let long = subst (λ (ts : List RawTurn). plan.IsLong ts said.settings.span said.start count) same r in
+    let few = b.few long.list long.picked long.least long.are in
+    let many = long.many in
+    let is = long.count_is in
+    absurd (omega arith)
+planned x said sound Memory b are r = tt
+planned x said sound ReadFault b are r = tt
+planned x said sound WriteFault b are r = tt
+planned x said sound Done b are r = tt
+planned x said sound other b are r = absurd r
+
+builds : PartsAreExact → (said : Said) (status : Status) → IsBuildable said → BuildingIsRefused said status → IsDoneBut status
+builds x said (BadBook e) b r = absurd (r.0 (x.book_taken said.settings said.hand said.kinds said.start said.turns b.sound b.count e b.valid b.still b.are b.states r.1))
+builds x said (NoPlan e) b r = planned x said r.0 (NoPlan e) b r.1.0 r.1.1
+builds x said (StreamLong count) b r = planned x said r.0 (StreamLong count) b r.1.0 r.1.1
+builds x said Memory b r = tt
+builds x said ReadFault b r = tt
+builds x said WriteFault b r = tt
+builds x said Done b r = tt
+builds x said other b r = absurd r
+
+empty_has_none : (c : Cell) → IsFirstLive nothing c → ⊥
+empty_has_none c first = let live = first.is in cc
+
+-- ---- requests
+
+compiles : PartsAreExact → (texts : List HeldText) (b t : List ℕ) (before now : ℕ) (status : Status) → HasNoRefusal (Compile b t) texts → CompilingIsRefused (Some texts) b t before now status → IsDoneBut status
+compiles x texts b t before now ReadFault d r = tt
+compiles x texts b t before now (TooLong Book) d r = absurd (not_long texts b d.1.0.text d.1.0.held r)
+compiles x texts b t before now (TooLong Target) d r = absurd (not_long texts t d.1.1.0.text d.1.1.0.held r.1.1)
+compiles x texts b t before now (TooLong Pattern) d r = absurd r
+compiles x texts b t before now (BadBookText e) d r =
+    let P : List ℕ → Type 0 = λ text. StopsWith text e in
+    absurd (r.0 (x.book_read d.1.0.text d.0 e d.1.0.reads.says d.1.0.reads.wide (subst P (one_text texts b r.1.0 d.1.0.text r.1.1.0.held d.1.0.held.held) r.1.1.1)))
+compiles x texts b t before now (BadRle which e) d r =
     let found = r.1.1.1.1 in
-    absurd (x.plain d.target_text e d.plain (subst P (one_text texts d.target_name found.0 d.target_text found.1.0.held d.target.held) found.1.1) r.1.0)
-compiles x ws texts before now (BadBook e) d r =
-    let P : Said → Type 0 = λ s. BuildingIsRefused s.settings (alive s.kind) (alive s.hand) (turn_of s) (BadBook e) in
-    builds d.said (BadBook e) d.place d.still d.hand d.turn (subst P (one_said x texts d.book_name r.0 d.said r.1.0 d.book) r.1.1.1)
-compiles x ws texts before now (NoPlan e) d r =
-    let P : Said → Type 0 = λ s. BuildingIsRefused s.settings (alive s.kind) (alive s.hand) (turn_of s) (NoPlan e) in
-    builds d.said (NoPlan e) d.place d.still d.hand d.turn (subst P (one_said x texts d.book_name r.0 d.said r.1.0 d.book) r.1.1.1)
-compiles x ws texts before now Memory d r = tt
-compiles x ws texts before now Done d r = tt
-compiles x ws texts before now (Words e) d r = absurd r
-compiles x ws texts before now WriteFault d r = tt
+    absurd (fine_read x texts t d.1.1.0.text found.0 e d.1.1.0.held d.1.1.0.fine found.1.0 found.1.1 r.1.0)
+compiles x texts b t before now (NotYet c) d r =
+    let held = r.1.1.1.0 in
+    let same : r.1.1.0 ≡ nothing = x.one_plane d.1.1.0.text r.1.1.0 nothing (subst (λ (text : List ℕ). Means text r.1.1.0) (one_text texts t held.text d.1.1.0.text held.held.held d.1.1.0.held.held) held.means) d.1.1.0.means in
+    absurd (empty_has_none c (subst (λ (s : Plane). IsFirstLive s c) same r.1.1.1.1))
+compiles x texts b t before now (BadBook e) d r = builds x d.0 (BadBook e) d.1.1.1 (subst (λ (s : Said). BuildingIsRefused s (BadBook e)) (one_said x texts b r.0 d.0 r.1.0 d.1.0) r.1.1.1)
+compiles x texts b t before now (NoPlan e) d r = builds x d.0 (NoPlan e) d.1.1.1 (subst (λ (s : Said). BuildingIsRefused s (NoPlan e)) (one_said x texts b r.0 d.0 r.1.0 d.1.0) r.1.1.1)
+compiles x texts b t before now (StreamLong count) d r = builds x d.0 (StreamLong count) d.1.1.1 (subst (λ (s : Said). BuildingIsRefused s (StreamLong count)) (one_said x texts b r.0 d.0 r.1.0 d.1.0) r.1.1.1)
+compiles x texts b t before now Memory d r = tt
+compiles x texts b t before now Done d r = tt
+compiles x texts b t before now WriteFault d r = tt
+compiles x texts b t before now other d r = absurd r
 
--- the words name one book and one target
-one_book_name : (ws : command.Words) (b t c u : List ℕ) → IsCompile ws b t → IsCompile ws c u → b ≡ c
-one_book_name ws b t c u p q = let x = p.whole in let y = q.whole in cc
+replays : PartsAreExact → (texts : List HeldText) (p : List ℕ) (before now : ℕ) (status : Status) → HoldsFine texts p → ReplayingIsRefused (Some texts) p before now status → IsDoneBut status
+replays x texts p before now ReadFault d r = tt
+replays x texts p before now (TooLong which) d r = absurd (not_long texts p d.text d.held r.1)
+replays x texts p before now (BadRle which e) d r =
+    let found = r.1.1 in
+    absurd (fine_read x texts p d.text found.0 e d.held d.fine found.1.0 found.1.1 r.1.0)
+replays x texts p before now Memory d r = tt
+replays x texts p before now Done d r = tt
+replays x texts p before now WriteFault d r = tt
+replays x texts p before now other d r = absurd r
 
-one_target_name : (ws : command.Words) (b t c u : List ℕ) → IsCompile ws b t → IsCompile ws c u → t ≡ u
-one_target_name ws b t c u p q = let x = p.whole in let y = q.whole in cc
+answers : PartsAreExact → (texts : List HeldText) (request : Request) (before now : ℕ) (status : Status) → HasNoRefusal request texts → IsRefused request (Some texts) before now status → IsDoneBut status
+answers x texts (Compile b t) before now status d r = compiles x texts b t before now status d r
+answers x texts (Replay p n) before now status d r = replays x texts p before now status d r
 
-renamed : (ws : command.Words) (texts : List HeldText) (before now : ℕ) (status : Status) (d : IsDue ws texts) (b t : List ℕ) → IsCompile ws b t → CompilingIsRefused (Some texts) b t before now status →
-    CompilingIsRefused (Some texts) d.book_name d.target_name before now status
-renamed ws texts before now status d b t c r =
-    let P : List ℕ → Type 0 = λ n. CompilingIsRefused (Some texts) n t before now status in
-    let Q : List ℕ → Type 0 = λ n. CompilingIsRefused (Some texts) d.book_name n before now status in
-    subst Q (one_target_name ws b t d.book_name d.target_name c d.words) (subst P (one_book_name ws b t d.book_name d.target_name c d.words) r)
+no_answer : PartsAreExact → (ws : command.Words) (texts : List HeldText) (before now : ℕ) (status : Status) → IsDue ws texts → HasNoAnswer ws (Some texts) before now status → IsDoneBut status
+no_answer x ws texts before now status d r =
+    answers x texts d.request before now status d.free (subst (λ (q : Request). IsRefused q (Some texts) before now status) (one_request ws r.0 d.request r.1.0 d.words) r.1.1)
 
-pub due_runs_are_done : ReadersAreExact → (ws : command.Words) (told : Option (List HeldText)) (rb rn : ℕ) (old new : Option (List ℕ)) (wb wn : ℕ) (status : Status) →
+pub due_runs_are_done : PartsAreExact → (ws : command.Words) (told : Option (List HeldText)) (rb rn : ℕ) (old new : Option (List ℕ)) (wb wn : ℕ) (status : Status) →
     Ends ws told rb rn old new wb wn status → IfSome told (λ texts. IsDue ws texts → IsDoneBut status)
 due_runs_are_done x ws None rb rn old new wb wn status r = tt
 due_runs_are_done x ws (Some texts) rb rn old new wb wn Done r = λ d. tt
 due_runs_are_done x ws (Some texts) rb rn old new wb wn Memory r = λ d. tt
 due_runs_are_done x ws (Some texts) rb rn old new wb wn WriteFault r = λ d. tt
 due_runs_are_done x ws (Some texts) rb rn old new wb wn ReadFault r = λ d. tt
-due_runs_are_done x ws (Some texts) rb rn old new wb wn (Words e) r = λ d. absurd (words_read ws d.book_name d.target_name e d.words r.1)
-due_runs_are_done x ws (Some texts) rb rn old new wb wn (TooLong which) r = λ d. compiles x ws texts rb rn (TooLong which) d (renamed ws texts rb rn (TooLong which) d r.1.0 r.1.1.0 r.1.1.1.0 r.1.1.1.1)
-due_runs_are_done x ws (Some texts) rb rn old new wb wn (BadRle which e) r = λ d. compiles x ws texts rb rn (BadRle which e) d (renamed ws texts rb rn (BadRle which e) d r.1.0 r.1.1.0 r.1.1.1.0 r.1.1.1.1)
-due_runs_are_done x ws (Some texts) rb rn old new wb wn (BadBookText e) r = λ d. compiles x ws texts rb rn (BadBookText e) d (renamed ws texts rb rn (BadBookText e) d r.1.0 r.1.1.0 r.1.1.1.0 r.1.1.1.1)
-due_runs_are_done x ws (Some texts) rb rn old new wb wn (BadBook e) r = λ d. compiles x ws texts rb rn (BadBook e) d (renamed ws texts rb rn (BadBook e) d r.1.0 r.1.1.0 r.1.1.1.0 r.1.1.1.1)
-due_runs_are_done x ws (Some texts) rb rn old new wb wn (NoPlan e) r = λ d. compiles x ws texts rb rn (NoPlan e) d (renamed ws texts rb rn (NoPlan e) d r.1.0 r.1.1.0 r.1.1.1.0 r.1.1.1.1)
+due_runs_are_done x ws (Some texts) rb rn old new wb wn (Words e) r = λ d. absurd (words_read ws d.request e d.words r.1)
+due_runs_are_done x ws (Some texts) rb rn old new wb wn other r = λ d. no_answer x ws texts rb rn other d r.1

@@ -1,5 +1,5 @@
 -- What standard error gains from a line that was put, in part or whole, or not at all.
-use Rattle.std.specs.Prelude.{◌≡◌, ◌⊎◌, ℕ, List, [], ◌∷◌, ◌++◌, length, take}
+use Rattle.std.specs.Prelude.{◌≡◌, ℕ, List, [], ◌∷◌, ◌++◌, length, take}
 use Rattle.std.specs.Io.KnownBytes.{append_known}
 use Rattle.std.specs.declared.option.Option.{Option}
 use Rattle.std.specs.declared.option.Option.TheVariants.{Some, None}
@@ -8,7 +8,7 @@ use Rattle.std.proofs.Math.Seq.{take-length}
 use Rattle.life_io.specs.Counts.{Rose}
 use Rattle.life_io.specs.Sinks.{AppendsPrefix}
 use Rattle.life_cli.specs.declared.status.Status.{Status}
-use Rattle.life_cli.specs.declared.status.Status.TheVariants.{Done, Words, ReadFault, TooLong, BadRle, BadBookText, BadBook, NoPlan, WriteFault, Memory}
+use Rattle.life_cli.specs.declared.status.Status.TheVariants.{Done, WriteFault, Memory}
 use Rattle.life_cli.specs.ErrorLines.{error_line, Gains, HasLine, without_line}
 
 take_all : (xs : List ℕ) → take (length xs) xs ≡ xs
@@ -31,36 +31,16 @@ none old new line e = record { prefix = []; begins = refl; appended = e ∙ sym 
 
 pub gains_line : (status : Status) (old new : Option (List ℕ)) (before now : ℕ) → HasLine status → new ≡ append_known old (error_line status) → Gains old new before now status
 gains_line Done old new before now h e = absurd (h.0 refl)
-gains_line (Words w) old new before now h e = inl e
-gains_line ReadFault old new before now h e = inl e
-gains_line (TooLong which) old new before now h e = inl e
-gains_line (BadRle which w) old new before now h e = inl e
-gains_line (BadBookText w) old new before now h e = inl e
-gains_line (BadBook w) old new before now h e = inl e
-gains_line (NoPlan w) old new before now h e = inl e
-gains_line WriteFault old new before now h e = whole old new (error_line WriteFault) e
 gains_line Memory old new before now h e = absurd (h.1 refl)
+gains_line WriteFault old new before now h e = whole old new (error_line WriteFault) e
+gains_line other old new before now h e = inl e
 
 pub gains_part : (status : Status) (old new : Option (List ℕ)) (before now : ℕ) → HasLine status → Rose before now → AppendsPrefix old new (error_line status) → Gains old new before now status
 gains_part Done old new before now h r a = absurd (h.0 refl)
-gains_part (Words w) old new before now h r a = inr (r, a)
-gains_part ReadFault old new before now h r a = inr (r, a)
-gains_part (TooLong which) old new before now h r a = inr (r, a)
-gains_part (BadRle which w) old new before now h r a = inr (r, a)
-gains_part (BadBookText w) old new before now h r a = inr (r, a)
-gains_part (BadBook w) old new before now h r a = inr (r, a)
-gains_part (NoPlan w) old new before now h r a = inr (r, a)
-gains_part WriteFault old new before now h r a = a
 gains_part Memory old new before now h r a = absurd (h.1 refl)
+gains_part WriteFault old new before now h r a = a
+gains_part other old new before now h r a = inr (r, a)
 
 pub gains_none : (status : Status) (old new : Option (List ℕ)) (before now : ℕ) → new ≡ old → Gains old new before now (without_line status)
-gains_none Done old new before now e = e
-gains_none (Words w) old new before now e = e
-gains_none ReadFault old new before now e = e
-gains_none (TooLong which) old new before now e = e
-gains_none (BadRle which w) old new before now e = e
-gains_none (BadBookText w) old new before now e = e
-gains_none (BadBook w) old new before now e = e
-gains_none (NoPlan w) old new before now e = e
 gains_none WriteFault old new before now e = none old new (error_line WriteFault) e
-gains_none Memory old new before now e = e
+gains_none other old new before now e = e

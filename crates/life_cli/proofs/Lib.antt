@@ -1,8 +1,9 @@
+-- Lemmas of the top call.
 mod WordLists
 mod Held
-mod BookFacts
 mod Notes
-mod Answered
-mod Compiling
+mod Generations
+mod Written
+mod Together
 mod Gaining
 mod Completeness

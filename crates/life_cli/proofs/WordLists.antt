@@ -1,5 +1,5 @@
 -- The words of the command line, one by one.
-use Rattle.std.proofs.Common.{◌≡◌, ℕ, ◌+◌, ◌-◌, ◌<◌, List, [], ◌∷◌, length, get_or, refl, sym, ap, ◌∙◌, arith, map, Global, String, Bool, true, false}
+use Rattle.std.proofs.Common.{◌≡◌, ℕ, ◌+◌, ◌<◌, List, [], ◌∷◌, length, get_or, refl, arith, Global, String}
 use Rattle.std.specs.String.{string_bytes}
 use Rattle.life_cli.specs.Words.{Words, texts_of}
 

@@ -1,26 +1,28 @@
 -- The answer to `compile`: the pattern and the number of generations after which it is exactly the target.
-use Rattle.std.specs.Prelude.{◌≡◌, ℕ, ℤ, pos, List, [], ◌∷◌, ◌++◌, codes, Some}
+use Rattle.std.specs.Prelude.{◌≡◌, ℕ, pos, List, ◌++◌, codes, Some}
 use Rattle.std.specs.Fmt.{decimal}
 use Rattle.life_plane.specs.Plane.{Plane, run, nothing}
 use Rattle.life_cells.specs.Cells.{cell}
 use Rattle.life_cells.specs.declared.cell.Cell.{Cell}
 use Rattle.life_rle.specs.Text.{Means}
 use Rattle.life_rle.specs.Written.{IsRleText}
-use Rattle.book_text.specs.FirstForm.{Said}
-use Rattle.stream_time.specs.Schedule.{Timed, no_past, IsChosen}
-use Rattle.stream_time.specs.Pattern.{pattern, last_end, at_once}
-use Rattle.stream_time.specs.Closing.{IsClosingStream}
+use Rattle.book_parts.specs.declared.turn.RawTurn.{RawTurn}
+use Rattle.book_text.specs.Book.{Said}
+use Rattle.recipe_book.specs.Entries.{AreTheSound}
+use Rattle.stream_time.specs.Schedule.{Timed}
+use Rattle.stream_time.specs.Pattern.{pattern, last_end}
+use Rattle.stream_time.specs.Built.{IsLeastStream}
 use Rattle.life_io.specs.Texts.{HeldText}
-use Rattle.life_cli.specs.Book.{kind_of, turn_of, ReadsAsBook}
+use Rattle.life_cli.specs.Book.{ReadsAsBook}
 use Rattle.life_cli.specs.Causes.{IsHeld}
 
 -- the shift back to the target's place: none for a target with no cell
 abbrev pub back : Cell
 back = cell (pos 0) (pos 0)
 
--- the pattern of a stream of this book's turns
+-- the pattern of a stream of this book's turns: its start kind and their gliders
 abbrev pub pattern_of : Said → List Timed → Plane
-pattern_of said turns = pattern said.settings (kind_of said ∷ []) 1 turns back
+pattern_of said turns = pattern said.settings said.kinds said.start turns back
 
 -- the note that names the number of generations
 abbrev pub generations : ℕ → List ℕ
@@ -32,11 +34,11 @@ pub record IsCompiled (book_text target_text bytes : List ℕ) : Type 0 where
   pub book : ReadsAsBook book_text said
   pub target : Plane
   pub target_is : Means target_text target
-  -- the stream: the book's closing turn, which closes the start elbow, and starts as soon as it may
+  -- the stream: of the book's sound turns the least list that closes the start elbow, each turn as soon as it may start
+  pub sound : List RawTurn
+  pub sound_are : AreTheSound said.settings said.kinds said.turns sound
   pub turns : List Timed
-  pub listed : turns ≡ at_once (turn_of said) ∷ []
-  pub closes : IsClosingStream said.settings (kind_of said ∷ []) 1 turns
-  pub chosen : IsChosen said.settings no_past turns
+  pub stream : IsLeastStream said.settings sound said.start turns
   -- what is written
   pub written : IsRleText (pattern_of said turns) (Some (generations (last_end turns))) bytes
   pub means : Means bytes (pattern_of said turns)

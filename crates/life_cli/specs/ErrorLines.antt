@@ -1,5 +1,5 @@
 -- The lines on standard error.
-use Rattle.std.specs.Prelude.{◌≡◌, ◌≢◌, ◌⊎◌, ℕ, ℤ, List, [], ◌∷◌, ◌++◌, codes}
+use Rattle.std.specs.Prelude.{◌≡◌, ◌≢◌, ◌⊎◌, ℕ, List, [], ◌∷◌, ◌++◌, codes}
 use Rattle.std.specs.Fmt.{decimal, signed_decimal}
 use Rattle.std.specs.Io.KnownBytes.{append_known}
 use Rattle.std.specs.declared.option.Option.{Option}
@@ -12,17 +12,16 @@ use Rattle.book_text.specs.declared.error.LineFault as fault
 use Rattle.book_text.specs.declared.error.BookWord as setting
 use Rattle.life_cli.specs.declared.words.WordsError as words
 use Rattle.life_cli.specs.declared.status.Which.{Which}
-use Rattle.life_cli.specs.declared.status.Which.TheVariants.{Book, Target}
-use Rattle.life_cli.specs.declared.status.BookRefusal.{BookRefusal}
-use Rattle.life_cli.specs.declared.status.BookRefusal.TheVariants.{KindPlace, KindNotStill, HandNotStill}
-use Rattle.life_cli.specs.declared.status.PlanError.{PlanError}
-use Rattle.life_cli.specs.declared.status.PlanError.TheVariants.{NoClosing}
+use Rattle.life_cli.specs.declared.status.Which.TheVariants.{Book, Target, Pattern}
+use Rattle.recipe_book.specs.declared.refusal.BookRefusal as check
+use Rattle.stream_time.specs.declared.building.PlanError as plan
 use Rattle.life_cli.specs.declared.status.Status.{Status}
-use Rattle.life_cli.specs.declared.status.Status.TheVariants.{Done, Words, ReadFault, TooLong, BadRle, BadBookText, BadBook, NoPlan, WriteFault, Memory}
+use Rattle.life_cli.specs.declared.status.Status.TheVariants.{Done, Words, ReadFault, TooLong, BadRle, BadBookText, BadBook, NoPlan, StreamLong, WriteFault, Memory, NotYet}
 
 abbrev pub which_text : Which → List ℕ
 which_text Book = codes "book"
 which_text Target = codes "target"
+which_text Pattern = codes "pattern"
 
 -- x, a space, y
 abbrev pub cell_text : Cell → List ℕ
@@ -33,6 +32,7 @@ words_text words.TheVariants.NoCommand = codes "words none"
 words_text (words.TheVariants.Dash place) = codes "words dash " ++ decimal place
 words_text words.TheVariants.UnknownCommand = codes "words unknown"
 words_text words.TheVariants.WrongCount = codes "words count"
+words_text (words.TheVariants.BadNumber place) = codes "words number " ++ decimal place
 
 -- what is wrong with a pattern's text; the last is no text of a status
 abbrev pub rle_text : rle.RleError → List ℕ
@@ -79,13 +79,19 @@ book_text (book.TheVariants.WallReach wall reach) = codes "reach " ++ (signed_de
 book_text (book.TheVariants.NotYet line) = codes "not yet " ++ decimal line
 book_text book.TheVariants.Memory = codes "memory"
 
-abbrev pub refusal_text : BookRefusal → List ℕ
-refusal_text (KindPlace kind cell) = codes "kind " ++ (decimal kind ++ (codes " place " ++ cell_text cell))
-refusal_text (KindNotStill kind cell) = codes "kind " ++ (decimal kind ++ (codes " moves " ++ cell_text cell))
-refusal_text (HandNotStill cell) = codes "hand moves " ++ cell_text cell
+-- why a book is refused; the last is no text of a status
+abbrev pub refusal_text : check.BookRefusal → List ℕ
+refusal_text (check.TheVariants.KindPlace kind cell) = codes "kind " ++ (decimal kind ++ (codes " place " ++ cell_text cell))
+refusal_text (check.TheVariants.KindNotStill kind cell) = codes "kind " ++ (decimal kind ++ (codes " moves " ++ cell_text cell))
+refusal_text (check.TheVariants.HandNotStill cell) = codes "hand moves " ++ cell_text cell
+refusal_text (check.TheVariants.ElbowMany count) = codes "elbows " ++ decimal count
+refusal_text check.TheVariants.Memory = codes "memory"
 
-abbrev pub plan_text : PlanError → List ℕ
-plan_text (NoClosing kind shift) = codes "no closing " ++ (decimal kind ++ (codes " " ++ signed_decimal shift))
+-- where the planner stops; the last is no text of a status
+abbrev pub plan_text : plan.PlanError → List ℕ
+plan_text (plan.TheVariants.NoClosing kind shift) = codes "no closing " ++ (decimal kind ++ (codes " " ++ signed_decimal shift))
+plan_text (plan.TheVariants.StreamLong count) = codes "stream long " ++ decimal count
+plan_text plan.TheVariants.Memory = codes "memory"
 
 -- the text of a status; Done and Memory have none
 abbrev pub status_text : Status → List ℕ
@@ -97,8 +103,10 @@ status_text (BadRle which e) = which_text which ++ (codes " " ++ rle_text e)
 status_text (BadBookText e) = codes "book " ++ book_text e
 status_text (BadBook e) = refusal_text e
 status_text (NoPlan e) = plan_text e
+status_text (StreamLong count) = codes "stream long " ++ decimal count
 status_text WriteFault = codes "write fault"
 status_text Memory = []
+status_text (NotYet cell) = codes "not yet " ++ cell_text cell
 
 -- the line of a status
 abbrev pub error_line : Status → List ℕ
@@ -110,27 +118,13 @@ HasLine status = (status ≢ Done) × (status ≢ Memory)
 
 -- what a status becomes where there is no memory for its line: a write fault stays
 abbrev pub without_line : Status → Status
-without_line Done = Memory
-without_line (Words e) = Memory
-without_line ReadFault = Memory
-without_line (TooLong which) = Memory
-without_line (BadRle which e) = Memory
-without_line (BadBookText e) = Memory
-without_line (BadBook e) = Memory
-without_line (NoPlan e) = Memory
 without_line WriteFault = WriteFault
-without_line Memory = Memory
+without_line other = Memory
 
 -- What standard error gains: nothing at Done and at want of memory; a first part of the line where the status is WriteFault or the sink's
 -- count of faults rose; else the whole line.
 abbrev pub Gains : Option (List ℕ) → Option (List ℕ) → ℕ → ℕ → Status → Type 0
 Gains old new before now Done = new ≡ old
-Gains old new before now (Words e) = (new ≡ append_known old (error_line (Words e))) ⊎ (Rose before now × AppendsPrefix old new (error_line (Words e)))
-Gains old new before now ReadFault = (new ≡ append_known old (error_line ReadFault)) ⊎ (Rose before now × AppendsPrefix old new (error_line ReadFault))
-Gains old new before now (TooLong which) = (new ≡ append_known old (error_line (TooLong which))) ⊎ (Rose before now × AppendsPrefix old new (error_line (TooLong which)))
-Gains old new before now (BadRle which e) = (new ≡ append_known old (error_line (BadRle which e))) ⊎ (Rose before now × AppendsPrefix old new (error_line (BadRle which e)))
-Gains old new before now (BadBookText e) = (new ≡ append_known old (error_line (BadBookText e))) ⊎ (Rose before now × AppendsPrefix old new (error_line (BadBookText e)))
-Gains old new before now (BadBook e) = (new ≡ append_known old (error_line (BadBook e))) ⊎ (Rose before now × AppendsPrefix old new (error_line (BadBook e)))
-Gains old new before now (NoPlan e) = (new ≡ append_known old (error_line (NoPlan e))) ⊎ (Rose before now × AppendsPrefix old new (error_line (NoPlan e)))
-Gains old new before now WriteFault = AppendsPrefix old new (error_line WriteFault)
 Gains old new before now Memory = new ≡ old
+Gains old new before now WriteFault = AppendsPrefix old new (error_line WriteFault)
+Gains old new before now other = (new ≡ append_known old (error_line other)) ⊎ (Rose before now × AppendsPrefix old new (error_line other))

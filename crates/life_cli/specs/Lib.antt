@@ -1,9 +1,10 @@
 -- What the program answers.
 pub mod Words
+pub mod Requests
 pub mod Book
 pub mod Causes
 pub mod Compiled
-pub mod Built
+pub mod Replayed
 pub mod Statuses
 pub mod Run
 pub mod ErrorLines

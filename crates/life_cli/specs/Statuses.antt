@@ -1,7 +1,7 @@
 -- The numbers of the statuses.
 use Rattle.std.specs.Prelude.{ℕ}
 use Rattle.life_cli.specs.declared.status.Status.{Status}
-use Rattle.life_cli.specs.declared.status.Status.TheVariants.{Done, Words, ReadFault, TooLong, BadRle, BadBookText, BadBook, NoPlan, WriteFault, Memory}
+use Rattle.life_cli.specs.declared.status.Status.TheVariants.{Done, Words, ReadFault, TooLong, BadRle, BadBookText, BadBook, NoPlan, StreamLong, WriteFault, Memory, NotYet}
 
 abbrev pub number_of : Status → ℕ
 number_of Done = 0
@@ -12,5 +12,7 @@ number_of (BadRle which fault) = 4
 number_of (BadBookText e) = 4
 number_of (BadBook e) = 6
 number_of (NoPlan e) = 7
+number_of (StreamLong count) = 8
 number_of WriteFault = 11
 number_of Memory = 12
+number_of (NotYet cell) = 13

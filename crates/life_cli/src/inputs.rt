@@ -1,13 +1,14 @@
 //! The texts of a command, fetched and read.
 
-ghost use Rattle.std.specs.Prelude.{◌≡◌, ◌≢◌, IfOk, IfErr, IfSome};
+ghost use Rattle.std.specs.Prelude.{◌≡◌, ◌≢◌, ◌^◌, IfOk, IfErr, IfSome};
 ghost use Rattle.life_cells.specs.Cells.{alive};
 ghost use Rattle.life_io.specs.Counts.{IsLaterCount};
 ghost use Rattle.life_io.specs.Texts.{Holds};
 ghost use Rattle.life_rle.specs.Text.{Means};
-ghost use Rattle.book_text.specs.FirstForm.{Said, IsBook};
-ghost use Rattle.life_plane.specs.Plane.{nothing};
-ghost use Rattle.life_cli.specs.Book.{ReadsAsBook, IsReadable};
+ghost use Rattle.book_text.specs.Book.{Said, IsBook};
+ghost use Rattle.book_parts.specs.Proper.{IsProperBook};
+ghost use Rattle.life_cells.specs.Boxes.{IsInRange};
+ghost use Rattle.life_cli.specs.Book.{ReadsAsBook};
 ghost use Rattle.life_cli.specs.Causes.{HoldsBook, HoldsPattern, BookTextIsRefused, PatternTextIsRefused, BookReadingIsRefused, PatternReadingIsRefused};
 
 use crate::fetch::fetch_text;
@@ -21,6 +22,7 @@ use std::alloc::Global;
 // The book of a text.
 fn book_of(alloc: Global, text: &[u8]) -> Result<RawBook, Status>
     ensures ok { IfOk result (λ book. (said : Said) × (ReadsAsBook text.now said × IsBook said book)) }
+    ensures proper { IfOk result (λ book. IsProperBook book) }
     ensures err { IfErr result (λ status. BookTextIsRefused text.now status) }
 {
     match read_book(alloc, text) {
@@ -30,19 +32,16 @@ fn book_of(alloc: Global, text: &[u8]) -> Result<RawBook, Status>
     }
 }
 
-// The pattern of the target's text.
-fn target_of(alloc: Global, text: &[u8]) -> Result<Pattern, Status>
-    ensures ok { IfOk result (λ target. Means text.now (alive target.cells)) }
-    ensures empty { IfOk result (λ target. alive target.cells ≡ nothing) }
-    ensures err { IfErr result (λ status. PatternTextIsRefused text.now status) }
+// The pattern of a text.
+fn pattern_of(alloc: Global, text: &[u8], which: Which) -> Result<Pattern, Status>
+    ensures ok { IfOk result (λ pattern. Means text.now (alive pattern.cells)) }
+    ensures range { IfOk result (λ pattern. IsInRange (2 ^ 40) (alive pattern.cells)) }
+    ensures err { IfErr result (λ status. PatternTextIsRefused text.now which status) }
 {
     match read_rle(alloc, text) {
-        Ok(target) => Ok(target),
+        Ok(pattern) => Ok(pattern),
         Err(RleError::Memory) => Err(Status::Memory),
-        Err(fault) => Err(Status::BadRle {
-            which: Which::Target,
-            fault,
-        }),
+        Err(fault) => Err(Status::BadRle { which, fault }),
     }
 }
 
@@ -52,7 +51,8 @@ pub(crate) fn fetch_book<D: Depot>(
     depot: &mut D,
     name: &str,
 ) -> Result<RawBook, Status>
-    ensures ok { IfOk result (λ book. (said : Said) × (IsBook said book × (IsReadable said × IfSome (D.texts depot.old) (λ texts. HoldsBook texts name.now said)))) }
+    ensures ok { IfOk result (λ book. (said : Said) × (IsBook said book × IfSome (D.texts depot.old) (λ texts. HoldsBook texts name.now said))) }
+    ensures proper { IfOk result (λ book. IsProperBook book) }
     ensures err { IfErr result (λ status. BookReadingIsRefused (D.texts depot.old) name.now (D.faults depot.old) (D.faults depot.new) status) }
     ensures texts_stay { D.texts depot.new ≡ D.texts depot.old }
     ensures count { IsLaterCount (D.faults depot.old) (D.faults depot.new) }
@@ -64,21 +64,22 @@ pub(crate) fn fetch_book<D: Depot>(
     book_of(alloc, &text)
 }
 
-/// The pattern of a name, which stands for the target.
-pub(crate) fn fetch_target<D: Depot>(
+/// The pattern of a name, whose text is the one that is meant.
+pub(crate) fn fetch_pattern<D: Depot>(
     alloc: Global,
     depot: &mut D,
     name: &str,
+    which: Which,
 ) -> Result<Pattern, Status>
-    ensures ok { IfOk result (λ target. IfSome (D.texts depot.old) (λ texts. HoldsPattern texts name.now (alive target.cells))) }
-    ensures empty { IfOk result (λ target. alive target.cells ≡ nothing) }
-    ensures err { IfErr result (λ status. PatternReadingIsRefused (D.texts depot.old) name.now (D.faults depot.old) (D.faults depot.new) status) }
+    ensures ok { IfOk result (λ pattern. IfSome (D.texts depot.old) (λ texts. HoldsPattern texts name.now (alive pattern.cells))) }
+    ensures range { IfOk result (λ pattern. IsInRange (2 ^ 40) (alive pattern.cells)) }
+    ensures err { IfErr result (λ status. PatternReadingIsRefused (D.texts depot.old) name.now which (D.faults depot.old) (D.faults depot.new) status) }
     ensures texts_stay { D.texts depot.new ≡ D.texts depot.old }
     ensures count { IsLaterCount (D.faults depot.old) (D.faults depot.new) }
     ensures no_fault { result ≢ Err Status.ReadFault → D.faults depot.new ≡ D.faults depot.old }
     ensures quiet_stays { D.quiet depot.old → D.quiet depot.new }
     ensures quiet_serves { D.quiet depot.old → Holds (D.texts depot.old) name.now → result ≢ Err Status.ReadFault }
 {
-    let text = fetch_text(alloc, depot, name, Which::Target)?;
-    target_of(alloc, &text)
+    let text = fetch_text(alloc, depot, name, which)?;
+    pattern_of(alloc, &text, which)
 }

@@ -1,15 +1,19 @@
 //! The top call of the program: from the words of the command line and the texts of a depot to the bytes of a sink.
 #![tactic(auto)]
 
-mod answer;
-mod build;
+mod compiling;
 mod fetch;
 mod inputs;
 mod lines;
+mod replaying;
+mod requests;
 pub mod run;
 pub mod status;
 pub mod words;
+mod writing;
 
+pub use recipe_book::BookRefusal;
 pub use run::life_run;
-pub use status::{BookRefusal, PlanError, Status, Which};
-pub use words::{Names, WordsError, read_words};
+pub use status::{Status, Which};
+pub use stream_time::PlanError;
+pub use words::{Command, WordsError, read_words};

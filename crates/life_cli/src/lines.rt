@@ -4,11 +4,13 @@ ghost use Rattle.std.specs.Prelude.{◌≡◌, IfOk};
 ghost use Rattle.std.specs.String.{string_bytes};
 ghost use Rattle.life_cli.specs.ErrorLines.{which_text, words_text, rle_text, fault_text, setting_text, book_text, refusal_text, plan_text, status_text, error_line};
 
-use crate::status::{BookRefusal, PlanError, Status, Which};
+use crate::status::{Status, Which};
 use crate::words::WordsError;
 use book_text::{BookError, BookWord, LineFault};
 use life_rle::RleError;
+use recipe_book::BookRefusal;
 use std::alloc::{AllocError, Global};
+use stream_time::PlanError;
 
 fn which_text(which: Which) -> &'static str
     ensures { result.now ≡ which_text which }
@@ -16,6 +18,7 @@ fn which_text(which: Which) -> &'static str
     match which {
         Which::Book => "book",
         Which::Target => "target",
+        Which::Pattern => "pattern",
     }
 }
 
@@ -27,6 +30,7 @@ fn words_text(alloc: Global, refusal: WordsError) -> Result<String, AllocError>
         WordsError::Dash { place } => format!(in alloc; "words dash {place}"),
         WordsError::UnknownCommand => String::from_str(alloc, "words unknown"),
         WordsError::WrongCount => String::from_str(alloc, "words count"),
+        WordsError::BadNumber { place } => format!(in alloc; "words number {place}"),
     }
 }
 
@@ -115,6 +119,8 @@ fn refusal_text(alloc: Global, refusal: BookRefusal) -> Result<String, AllocErro
             let (x, y) = (cell.x, cell.y);
             format!(in alloc; "hand moves {x} {y}")
         }
+        BookRefusal::ElbowMany { count } => format!(in alloc; "elbows {count}"),
+        BookRefusal::Memory => String::from_str(alloc, "memory"),
     }
 }
 
@@ -123,6 +129,8 @@ fn plan_text(alloc: Global, stop: PlanError) -> Result<String, AllocError>
 {
     match stop {
         PlanError::NoClosing { kind, shift } => format!(in alloc; "no closing {kind} {shift}"),
+        PlanError::StreamLong { count } => format!(in alloc; "stream long {count}"),
+        PlanError::Memory => String::from_str(alloc, "memory"),
     }
 }
 
@@ -149,6 +157,11 @@ fn status_text(alloc: Global, status: Status) -> Result<String, AllocError>
         }
         Status::BadBook(refusal) => refusal_text(alloc, refusal),
         Status::NoPlan(stop) => plan_text(alloc, stop),
+        Status::StreamLong { count } => format!(in alloc; "stream long {count}"),
+        Status::NotYet { cell } => {
+            let (x, y) = (cell.x, cell.y);
+            format!(in alloc; "not yet {x} {y}")
+        }
         Status::WriteFault => String::from_str(alloc, "write fault"),
     }
 }

@@ -1,6 +1,6 @@
 //! The top call.
 
-ghost use Rattle.std.specs.Prelude.{◌≡◌, ◌≢◌, ◌≤◌, ◌⊎◌, IfErr, IfSome, OnOk};
+ghost use Rattle.std.specs.Prelude.{◌≡◌, ◌≢◌, ℕ, ◌≤◌, ◌⊎◌, IfErr, IfSome, OnOk};
 ghost use Rattle.std.specs.Io.KnownBytes.{append_known};
 ghost use Rattle.life_io.specs.Counts.{IsLaterCount, Rose};
 ghost use Rattle.life_cli.specs.Causes.{PuttingIsRefused};
@@ -8,22 +8,24 @@ ghost use Rattle.life_cli.specs.Words.{AreRefused};
 ghost use Rattle.life_cli.specs.Run.{Ends, NamesAreHeld, GainsAnswer, GainsPart, HasNoAnswer};
 ghost use Rattle.life_cli.specs.declared.words.WordsError.{WordsError};
 ghost use Rattle.life_cli.specs.declared.status.Which.{Which};
-ghost use Rattle.life_cli.specs.declared.status.BookRefusal.{BookRefusal};
-ghost use Rattle.life_cli.specs.declared.status.PlanError.{PlanError};
+ghost use Rattle.recipe_book.specs.declared.refusal.BookRefusal.{BookRefusal};
+ghost use Rattle.stream_time.specs.declared.building.PlanError.{PlanError};
+ghost use Rattle.life_cells.specs.declared.cell.Cell.{Cell};
 ghost use Rattle.life_rle.specs.declared.error.RleError.{RleError};
 ghost use Rattle.book_text.specs.declared.error.BookError.{BookError};
 ghost use Rattle.life_cli.specs.Complete.{IsDue, IsDoneBut};
 ghost use Rattle.life_cli.specs.ErrorLines.{Gains, HasLine, without_line};
 ghost use Rattle.life_cli.specs.declared.status.Status.TheVariants.{Done};
 
-use crate::answer::compile;
 use crate::lines::error_line;
+use crate::requests::answer;
 use crate::status::Status;
 use crate::words::read_words;
 use book_text::laws::{books_have_no_refusal, texts_say_one_book};
 use life_io::{Depot, PutError, Sink};
-use life_rle::laws::plain_texts_have_no_refusal;
+use life_rle::laws::{fine_texts_have_no_refusal, texts_mean_one_plane};
 use life_steps::Steps;
+use recipe_book::laws::{sound_turns_are_one, taken_books_have_no_refusal};
 use std::alloc::Global;
 use std::sync::ledger::Ledger;
 
@@ -44,11 +46,12 @@ fn put_text<O: Sink>(out: &mut O, text: &[u8]) -> Result<(), Status>
 }
 
 // Runs the command that the words say, up to its answer on `out`.
-fn run_command<D: Depot, O: Sink>(
+fn run_command<D: Depot, O: Sink, L: Ledger>(
     alloc: Global,
     words: &[String],
     depot: &mut D,
     out: &mut O,
+    steps: &mut Steps<L>,
 ) -> Status
     ensures cause { Ends words.now (D.texts depot.old) (D.faults depot.old) (D.faults depot.new) (O.written out.old) (O.written out.new) (O.faults out.old) (O.faults out.new) result }
     ensures texts_stay { D.texts depot.new ≡ D.texts depot.old }
@@ -60,12 +63,13 @@ fn run_command<D: Depot, O: Sink>(
     ensures quiet_out { O.quiet out.old → result ≢ Status.WriteFault }
     ensures depot_stays_quiet { D.quiet depot.old → D.quiet depot.new }
     ensures out_stays_quiet { O.quiet out.old → O.quiet out.new }
+    ensures steps { steps.old ≤ steps.new }
 {
-    let names = match read_words(words) {
-        Ok(names) => names,
+    let command = match read_words(words) {
+        Ok(command) => command,
         Err(refusal) => return Status::Words(refusal),
     };
-    match compile(alloc, &names, depot) {
+    match answer(alloc, &command, depot, steps) {
         Err(status) => status,
         Ok(text) => match put_text(out, &text) {
             Err(status) => status,
@@ -80,15 +84,7 @@ fn without_line(status: Status) -> Status
 {
     match status {
         Status::WriteFault => Status::WriteFault,
-        Status::Done
-        | Status::Words(_)
-        | Status::ReadFault
-        | Status::TooLong { .. }
-        | Status::BadRle { .. }
-        | Status::BadBookText(_)
-        | Status::BadBook(_)
-        | Status::NoPlan(_)
-        | Status::Memory => Status::Memory,
+        _ => Status::Memory,
     }
 }
 
@@ -124,12 +120,13 @@ fn report<E: Sink>(alloc: Global, status: Status, err: &mut E) -> Status
 }
 
 // Runs the command that the words say, and reports its status.
-fn run_and_report<D: Depot, O: Sink, E: Sink>(
+fn run_and_report<D: Depot, O: Sink, E: Sink, L: Ledger>(
     alloc: Global,
     words: &[String],
     depot: &mut D,
     out: &mut O,
     err: &mut E,
+    steps: &mut Steps<L>,
 ) -> Status
     ensures cause { Ends words.now (D.texts depot.old) (D.faults depot.old) (D.faults depot.new) (O.written out.old) (O.written out.new) (O.faults out.old) (O.faults out.new) result }
     ensures lines { Gains (E.written err.old) (E.written err.new) (E.faults err.old) (E.faults err.new) result }
@@ -139,13 +136,14 @@ fn run_and_report<D: Depot, O: Sink, E: Sink>(
     ensures line_count { E.faults err.old ≤ E.faults err.new }
     ensures quiet_depot { D.quiet depot.old → NamesAreHeld words.now (D.texts depot.old) → (result ≢ Status.ReadFault) × (D.faults depot.new ≡ D.faults depot.old) }
     ensures quiet_out { O.quiet out.old → (result ≢ Status.WriteFault) × (O.faults out.new ≡ O.faults out.old) }
+    ensures steps { steps.old ≤ steps.new }
 {
-    let status = run_command(alloc, words, depot, out);
+    let status = run_command(alloc, words, depot, out, steps);
     report(alloc, status, err)
 }
 
 /// Runs the command that the words say: its texts are fetched from `depot`, its answer is put to `out`, and where it has no
-/// answer a line is put to `err`. No engine counts its generations in `steps` yet.
+/// answer a line is put to `err`. Each generation that an engine makes is counted in `steps`.
 pub fn life_run<D: Depot, O: Sink, E: Sink, L: Ledger>(
     alloc: Global,
     words: &[String],
@@ -154,7 +152,8 @@ pub fn life_run<D: Depot, O: Sink, E: Sink, L: Ledger>(
     err: &mut E,
     steps: &mut Steps<L>,
 ) -> Status
-    // At Done the answer was appended: the text of a pattern whose generation that it names is exactly the target.
+    // At Done the answer was appended. For `compile` it is the text of a pattern whose generation that it names is exactly the target;
+    // for `replay` it is the text of a later generation of the pattern.
     ensures done { result ≡ Status.Done → GainsAnswer words.now (D.texts depot.old) (O.written out.old) (O.written out.new) }
 
     // Why each other status comes. Want of memory is free.
@@ -170,6 +169,10 @@ pub fn life_run<D: Depot, O: Sink, E: Sink, L: Ledger>(
         HasNoAnswer words.now (D.texts depot.old) (D.faults depot.old) (D.faults depot.new) (Status.BadBook e) }
     ensures no_plan { (e : PlanError) → result ≡ Status.NoPlan e →
         HasNoAnswer words.now (D.texts depot.old) (D.faults depot.old) (D.faults depot.new) (Status.NoPlan e) }
+    ensures stream_long { (count : ℕ) → result ≡ Status.StreamLong count →
+        HasNoAnswer words.now (D.texts depot.old) (D.faults depot.old) (D.faults depot.new) (Status.StreamLong count) }
+    ensures not_yet { (cell : Cell) → result ≡ Status.NotYet cell →
+        HasNoAnswer words.now (D.texts depot.old) (D.faults depot.old) (D.faults depot.new) (Status.NotYet cell) }
     ensures write_fault { result ≡ Status.WriteFault →
         Rose (O.faults out.old) (O.faults out.new) × GainsPart words.now (D.texts depot.old) (O.written out.old) (O.written out.new) }
 
@@ -188,11 +191,14 @@ pub fn life_run<D: Depot, O: Sink, E: Sink, L: Ledger>(
     ensures read_count { D.faults depot.old ≤ D.faults depot.new }
     ensures write_count { O.faults out.old ≤ O.faults out.new }
     ensures line_count { E.faults err.old ≤ E.faults err.new }
-    ensures steps { steps.new ≡ steps.old }
+    ensures steps { steps.old ≤ steps.new }
 {
-    // These say that a text which is read has no refusal; they do nothing.
+    // These say that what is read and passes its tests has no refusal; they do nothing.
     texts_say_one_book();
     books_have_no_refusal();
-    plain_texts_have_no_refusal();
-    run_and_report(alloc, words, depot, out, err)
+    fine_texts_have_no_refusal();
+    texts_mean_one_plane();
+    sound_turns_are_one();
+    taken_books_have_no_refusal();
+    run_and_report(alloc, words, depot, out, err, steps)
 }

@@ -7,6 +7,8 @@ use crate::words::WordsError;
 use book_text::BookError;
 use life_cells::Cell;
 use life_rle::RleError;
+use recipe_book::BookRefusal;
+use stream_time::PlanError;
 
 /// Which text is meant.
 #[derive(Clone, Copy, Debug, PartialEq, Eq)]
@@ -15,24 +17,8 @@ pub enum Which {
     Book,
     /// The target.
     Target,
-}
-
-/// Why a book is refused. Kinds count from 1.
-#[derive(Clone, Copy, Debug, PartialEq, Eq)]
-pub enum BookRefusal {
-    /// A kind's first cell that is out of place.
-    KindPlace { kind: usize, cell: Cell },
-    /// A kind's first cell that changes.
-    KindNotStill { kind: usize, cell: Cell },
-    /// The hand's first cell that changes.
-    HandNotStill { cell: Cell },
-}
-
-/// Where the planner stops.
-#[derive(Clone, Copy, Debug, PartialEq, Eq)]
-pub enum PlanError {
-    /// No list of turns closes this elbow: its kind, counted from 1, and its shift.
-    NoClosing { kind: usize, shift: i64 },
+    /// The pattern that is replayed.
+    Pattern,
 }
 
 /// How a run of the program ends.
@@ -45,19 +31,34 @@ pub enum Status {
     /// A text was not fetched: the depot's count of faults rose.
     ReadFault,
     /// A text has more than 2^24 bytes.
-    TooLong { which: Which },
+    TooLong {
+        which: Which,
+    },
     /// A pattern's text is not read.
-    BadRle { which: Which, fault: RleError },
+    BadRle {
+        which: Which,
+        fault: RleError,
+    },
     /// The book's text is not read.
     BadBookText(BookError),
     /// The book is refused.
     BadBook(BookRefusal),
-    /// The planner stops.
+    /// No plan was found.
     NoPlan(PlanError),
+    /// The stream has more than 2^20 gliders.
+    StreamLong {
+        /// How many.
+        count: u64,
+    },
     /// The text was not put, or not all of it: the sink's count of faults rose.
     WriteFault,
     /// There was no memory.
     Memory,
+    /// The target has a live cell, and such targets are not compiled yet.
+    NotYet {
+        /// Its first live cell.
+        cell: Cell,
+    },
 }
 
 impl Status {
@@ -73,8 +74,10 @@ impl Status {
             Status::BadRle { .. } | Status::BadBookText(_) => 4,
             Status::BadBook(_) => 6,
             Status::NoPlan(_) => 7,
+            Status::StreamLong { .. } => 8,
             Status::WriteFault => 11,
             Status::Memory => 12,
+            Status::NotYet { .. } => 13,
         }
     }
 }

@@ -1,9 +1,13 @@
 //! The words of the command line.
 
-ghost use Rattle.std.specs.Prelude.{◌≡◌, ◌↔◌, IfOk, IfErr, IsTrue, codes};
-ghost use Rattle.life_cli.specs.Words.{IsCompile, AreRefused, first_dash, has_dash};
+ghost use Rattle.std.specs.Prelude.{◌≡◌, ◌≢◌, ℕ, List, ◌∷◌, [], length, IfOk, IfErr, IfSome, IfNone, IsTrue, ◌↔◌, codes};
+ghost use Rattle.life_cli.specs.Words.{AreRefused, BeginsWith, IsGenerations, first_dash, has_dash, has_plus, texts_of};
+ghost use Rattle.life_cli.specs.Requests.{Ask, request_of};
 
 use thiserror::Error;
+
+/// The most digits of a number of generations.
+const MOST_DIGITS: usize = 10;
 
 /// Why the words are no command. Places count from 1.
 #[derive(Clone, Copy, Debug, PartialEq, Eq, Error)]
@@ -13,22 +17,41 @@ pub enum WordsError {
     NoCommand,
     /// A word begins with `-`.
     #[error("word {place} begins with a dash")]
-    Dash { place: usize },
+    Dash {
+        /// The word's place.
+        place: usize,
+    },
     /// The first word is no command.
     #[error("unknown command")]
     UnknownCommand,
     /// The command has another number of words.
     #[error("wrong number of words")]
     WrongCount,
+    /// A word isn't a number within its limits.
+    #[error("word {place} is no number of generations")]
+    BadNumber {
+        /// The word's place.
+        place: usize,
+    },
 }
 
-/// The names of the texts that `compile` is given.
+/// A command, with the names of its texts.
 #[derive(Clone, Copy, Debug)]
-pub struct Names<'a> {
-    /// The book's.
-    pub book: &'a str,
-    /// The target's.
-    pub target: &'a str,
+pub enum Command<'a> {
+    /// Compiles a target with a book.
+    Compile {
+        /// The book's name.
+        book: &'a str,
+        /// The target's name.
+        target: &'a str,
+    },
+    /// Runs a pattern for some generations.
+    Replay {
+        /// The pattern's name.
+        pattern: &'a str,
+        /// How many generations.
+        generations: u32,
+    },
 }
 
 // The place of the first word that begins with a dash, counted from 0.
@@ -48,16 +71,81 @@ fn has_dash(text: &[u8]) -> bool
     }
 }
 
-// Whether the word is the one command.
-fn is_compile(word: &str) -> bool
-    ensures { IsTrue result ↔ (word.now ≡ codes "compile") }
+// Whether a word is this one.
+fn is_word(word: &str, other: &str) -> bool
+    ensures { IsTrue result ↔ (word.now ≡ other.now) }
 {
-    word == "compile"
+    word == other
+}
+
+// The two words behind the first, where there are just two.
+fn two_behind(words: &[String]) -> Option<(&str, &str)>
+    ensures some { IfSome result (λ two. (first : List ℕ) × (texts_of words.now ≡ first ∷ (two.0.now ∷ (two.1.now ∷ [])))) }
+    ensures none { IfNone result (length words.now ≢ 3) }
+{
+    if words.len() != 3 {
+        return None;
+    }
+    Some((words[1].as_str(), words[2].as_str()))
+}
+
+// Whether the text begins with a plus, which a number may not.
+fn has_plus(text: &[u8]) -> bool
+    ensures { result ≡ has_plus text.now }
+{
+    match text {
+        [first, ..] => *first == b'+',
+        [] => false,
+    }
+}
+
+// The number of generations that a word spells.
+fn generations_of(word: &str) -> Option<u32>
+    ensures some { IfSome result (λ n. IsGenerations word.now n) }
+    ensures none { IfNone result ((n : ℕ) → IsGenerations word.now n → ⊥) }
+{
+    if word.len() > MOST_DIGITS || has_plus(word.as_bytes()) {
+        return None;
+    }
+    match word.parse::<u32>() {
+        Ok(number) => Some(number),
+        Err(_) => None,
+    }
+}
+
+// The command `compile` of these words, the first of which names it.
+fn read_compile(words: &[String]) -> Result<Command<'_>, WordsError>
+    requires { (rest : List (List ℕ)) × BeginsWith words.now (codes "compile") rest }
+    ensures ok { IfOk result (λ command. Ask words.now (request_of command)) }
+    ensures err { IfErr result (λ e. AreRefused words.now e) }
+{
+    match two_behind(words) {
+        Some((book, target)) => Ok(Command::Compile { book, target }),
+        None => Err(WordsError::WrongCount),
+    }
+}
+
+// The command `replay` of these words, the first of which names it.
+fn read_replay(words: &[String]) -> Result<Command<'_>, WordsError>
+    requires { (rest : List (List ℕ)) × BeginsWith words.now (codes "replay") rest }
+    ensures ok { IfOk result (λ command. Ask words.now (request_of command)) }
+    ensures err { IfErr result (λ e. AreRefused words.now e) }
+{
+    let Some((pattern, number)) = two_behind(words) else {
+        return Err(WordsError::WrongCount);
+    };
+    match generations_of(number) {
+        Some(generations) => Ok(Command::Replay {
+            pattern,
+            generations,
+        }),
+        None => Err(WordsError::BadNumber { place: 3 }),
+    }
 }
 
 /// The command that the words say.
-pub fn read_words(words: &[String]) -> Result<Names<'_>, WordsError>
-    ensures ok { IfOk result (λ names. IsCompile words.now names.book.now names.target.now) }
+pub fn read_words(words: &[String]) -> Result<Command<'_>, WordsError>
+    ensures ok { IfOk result (λ command. Ask words.now (request_of command)) }
     ensures err { IfErr result (λ e. AreRefused words.now e) }
 {
     if words.is_empty() {
@@ -66,14 +154,12 @@ pub fn read_words(words: &[String]) -> Result<Names<'_>, WordsError>
     if let Some(before) = first_dash(words) {
         return Err(WordsError::Dash { place: before + 1 });
     }
-    if !is_compile(words[0].as_str()) {
-        return Err(WordsError::UnknownCommand);
+    let name = words[0].as_str();
+    if is_word(name, "compile") {
+        return read_compile(words);
     }
-    if words.len() != 3 {
-        return Err(WordsError::WrongCount);
+    if is_word(name, "replay") {
+        return read_replay(words);
     }
-    Ok(Names {
-        book: words[1].as_str(),
-        target: words[2].as_str(),
-    })
+    Err(WordsError::UnknownCommand)
 }

@@ -1,5 +1,5 @@
 -- Digits at the front of bytes, and the numbers that they spell.
-use Rattle.std.proofs.Common.{◌≡◌, ℕ, ◌+◌, ◌-◌, ◌*◌, ◌<◌, ◌≤◌, ◌^◌, true, false, List, [], ◌∷◌, ◌++◌, length, get_or, take, drop, refl, sym, ap, ◌∙◌, subst, inl, inr, arith, Some, None, suc, not, cond, ltb}
+use Rattle.std.proofs.Common.{◌≡◌, ℕ, ◌+◌, ◌-◌, ◌*◌, ◌<◌, ◌≤◌, ◌^◌, true, false, List, [], ◌∷◌, length, get_or, take, drop, refl, sym, ap, ◌∙◌, subst, inl, inr, arith, Some, None, suc, not, cond, ltb}
 use Rattle.std.specs.Char.{is_ascii_digit, digit_value}
 use Rattle.std.specs.Str.{all_ascii_digits}
 use Rattle.std.specs.List.{position, position_or_len}
@@ -8,7 +8,7 @@ use Rattle.std.proofs.lemmas.Int.Digits.{digits_value_more}
 use Rattle.std.proofs.lemmas.List.{take-append-drop, length-take, length-drop, get_or-take, drop_more}
 use Rattle.std.proofs.lemmas.List.Sums.{fails_before_first}
 use Rattle.std.proofs.lemmas.List.Quantifiers.{position-Some}
-use Rattle.std.proofs.lemmas.Bool.{and_from, and_parts, not-true, not-false, cases_lt, lt-ltb}
+use Rattle.std.proofs.lemmas.Bool.{and_from, not-true, not-false, cases_lt, lt-ltb}
 use Rattle.std.proofs.lemmas.Bool.Decides.{nat_tests}
 use Rattle.life_rle.specs.Numbers.{value}
 use Rattle.life_rle.specs.Faults.{IsAtCount}
@@ -59,7 +59,7 @@ split_at_other bytes n e =
     let at = position-Some (λ b. not (is_ascii_digit b)) bytes n 0 e in
     split_where bytes n (omega arith) at.2 (λ _. at.1)
 
-past_end : (p len : ℕ) → cond (ltb p len) (Some p) None ≡ None → len ≤ p
+pub past_end : (p len : ℕ) → cond (ltb p len) (Some p) None ≡ None → len ≤ p
 past_end p len e = elim (cases_lt p len) [ inl h ↦ absurd (cc (e, lt-ltb p len h)) | inr h ↦ h ]
 
 -- at the end, where there is none
@@ -67,24 +67,3 @@ pub split_at_end : (bytes : List ℕ) (n : ℕ) → position (λ b. not (is_asci
 split_at_end bytes n e l =
     let past = past_end (position_or_len (λ b. not (is_ascii_digit b)) bytes) (length bytes) e in
     split_where bytes n (omega arith) (λ k h. fails_before_first (λ b. not (is_ascii_digit b)) bytes k 0 (omega arith)) (λ h. absurd (omega arith))
-
--- ---- where digits end is determined
-
-digit_of_more : (b : ℕ) (bs : List ℕ) → all_ascii_digits (b ∷ bs) ≡ true → is_ascii_digit b ≡ true
-digit_of_more b bs h = (and_parts _ _ h).0
-
-same_digits : (d e r s : List ℕ) → all_ascii_digits d ≡ true → all_ascii_digits e ≡ true
-    → ((b : ℕ) (bs : List ℕ) → r ≡ b ∷ bs → is_ascii_digit b ≡ false) → ((b : ℕ) (bs : List ℕ) → s ≡ b ∷ bs → is_ascii_digit b ≡ false)
-    → d ++ r ≡ e ++ s → (d ≡ e) × (r ≡ s)
-same_digits [] [] r s p q f g h = (refl, h)
-same_digits [] (y ∷ e) r s p q f g h = absurd (let yes = digit_of_more y e q in let no = f y (e ++ s) h in cc)
-same_digits (x ∷ d) [] r s p q f g h = absurd (let yes = digit_of_more x d p in let no = g x (d ++ r) (sym h) in cc)
-same_digits (x ∷ d) (y ∷ e) r s p q f g h =
-    let head : x ≡ y = cc in
-    let tail : d ++ r ≡ e ++ s = cc in
-    let rest = same_digits d e r s (and_parts _ _ p).1 (and_parts _ _ q).1 f g tail in
-    (λ i. head i ∷ rest.0 i, rest.1)
-
--- the digits at the front and what follows them are determined
-pub one_count : (bytes d r e s : List ℕ) → IsAtCount bytes d r → IsAtCount bytes e s → (d ≡ e) × (r ≡ s)
-one_count bytes d r e s p q = same_digits d e r s p.digits_are q.digits_are p.ended q.ended (sym p.split ∙ q.split)

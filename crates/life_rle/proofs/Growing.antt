@@ -1,10 +1,9 @@
 -- How the items of rising cells grow, cell by cell.
 use Rattle.std.specs.Prelude.{◌≡◌, ◌≢◌, ℕ, ◌+◌, ◌<◌, ◌^◌, Bool, true, false, ◌||◌, ◌&&◌, ◌⊎◌, ℤ, pos, neg_ℤ, ◌+ℤ◌, ◌≤ℤ◌, ◌<ℤ◌, List, [], ◌∷◌, ◌++◌}
 use Rattle.std.specs.List.{AllByRecursion}
-use Rattle.std.specs.declared.cmp.Ordering.TheVariants.{Less, Equal, Greater}
-use Rattle.std.specs.Ordering.{int_cmp, int_eq}
+use Rattle.std.specs.declared.cmp.Ordering.TheVariants.{Less}
+use Rattle.std.specs.Ordering.{int_eq}
 use Rattle.std.proofs.lemmas.Bool.Decides.{Decides-int_eq}
-use Rattle.std.specs.Cmp.{int_ranked}
 use Rattle.std.proofs.Common.{refl, sym, ap, ◌∙◌, inl, inr, arith, zero, suc, subst, lit<, length, take, drop, get_or}
 use Rattle.std.proofs.lemmas.List.{append-nil, append_assoc, drop_more, take_more}
 use Rattle.std.proofs.lemmas.Int.{ints}
@@ -20,16 +19,8 @@ use Rattle.life_rle.specs.declared.item.Tag.TheVariants.{Dead, Alive, RowEnd}
 use Rattle.life_rle.specs.Items.{rows, columns, AreCells}
 use Rattle.life_rle.specs.Written.{may_follow, IsTidyAfter}
 use Rattle.life_rle.specs.Drawn.{some_of, IsBehind, IsAhead, IsNext, IsGapInRow, IsGapDown, IsGap, HasGap, StartsAfter, IsTidyFrom, AreSmall}
+use Rattle.life_rle.proofs.Below.{cases_below}
 use Rattle.life_rle.proofs.Made.{IsRun, none_made, made_front, made_some_live, made_some_run, cells_same, rows-some_longer, rows-some_ended, columns-some_longer, columns-some_ended}
-
--- two numbers, one below the other or not
-pub cases_below : (a b : ℤ) → (a <ℤ b) ⊎ (b ≤ℤ a)
-cases_below a b =
-    elim (int_cmp a b) as (λ o. int_cmp a b ≡ o → (a <ℤ b) ⊎ (b ≤ℤ a)) [
-      | Less ↦ λ e. inl (int_ranked a b Less (sym e))
-      | Equal ↦ λ e. let same : a ≡ b = int_ranked a b Equal (sym e) in inr (omega (arith, ints))
-      | Greater ↦ λ e. let above : b <ℤ a = int_ranked a b Greater (sym e) in inr (omega (arith, ints))
-    ] refl
 
 both_first : (a b : Bool) → (a && b) ≡ true → a ≡ true
 both_first true b h = refl

@@ -4,8 +4,8 @@ use Rattle.std.specs.Char.{is_ascii_digit}
 use Rattle.std.proofs.lemmas.List.{append_assoc, append_cancel_left}
 use Rattle.life_rle.specs.Numbers.{IsNatural}
 use Rattle.life_rle.specs.Faults.{IsAtCount}
-use Rattle.life_rle.specs.PlainText.{IsPlainHeader}
-use Rattle.life_rle.proofs.Counts.{one_count}
+use Rattle.life_rle.specs.PlainHeader.{IsPlainHeader}
+use Rattle.life_rle.specs.SpellingLaws.{one_count}
 
 pub if_some : {X : Type 0} (P : Type 0) (Q : X → Type 0) (r : Option X) → MatchOption r P Q → IfSome r Q
 if_some P Q None h = tt

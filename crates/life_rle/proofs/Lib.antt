@@ -1,12 +1,21 @@
 -- Lemmas of the reader: digits, items and cells.
+pub mod Below
 pub mod Counts
 pub mod Fronts
 pub mod Behind
 pub mod Drawn
 pub mod SoFar
 pub mod Headers
-pub mod Plain
 pub mod OneReading
+pub mod OneMeaning
+pub mod Firsts
+pub mod Lined
+pub mod Starting
+pub mod Placing
+pub mod BeforeEnd
+pub mod Beginning
+pub mod TextSoFar
+pub mod Meaning
 pub mod OneText
 -- Lemmas of the writer.
 pub mod Made
@@ -19,4 +28,6 @@ pub mod Framing
 pub mod ReadBack
 pub mod Whole
 pub mod Samples
+pub mod WrittenFine
+pub mod WrittenLines
 pub mod OneWriting

@@ -13,18 +13,18 @@ use Rattle.life_rle.proofs.Bytes.{both, first, second, not_false, all_append, is
 
 -- ---- one line and the rest
 
-abbrev ends_line : ℕ → Bool
+abbrev pub ends_line : ℕ → Bool
 ends_line b = b == 10
 
 none_passes : (p : ℕ → Bool) (bs : List ℕ) → list_all (λ b. not (p b)) bs ≡ true → All (λ b. p b ≡ false) bs
 none_passes p bs h = λ k d l. not_false _ (AllPass-from_list_all (λ b. not (p b)) bs h k d l)
 
-record IsSplit (parts : List (List ℕ)) : Type 0 where
-  part : List ℕ
-  more : List (List ℕ)
-  parts_are : parts ≡ part ∷ more
+pub record IsSplit (parts : List (List ℕ)) : Type 0 where
+  pub part : List ℕ
+  pub more : List (List ℕ)
+  pub parts_are : parts ≡ part ∷ more
 
-split_some : (bs : List ℕ) → IsSplit (slice_split ends_line bs)
+pub split_some : (bs : List ℕ) → IsSplit (slice_split ends_line bs)
 split_some [] = record { part = []; more = []; parts_are = refl }
 split_some (b ∷ bs) =
     let rest = split_some bs in
@@ -58,17 +58,17 @@ pub neither_second : (a b : Bool) → not (a || b) ≡ true → not b ≡ true
 neither_second true b h = cc
 neither_second false b h = h
 
-inner_of_item : (bs : List ℕ) → list_all is_item_byte bs ≡ true → list_all (λ b. not (b == 13)) bs ≡ true
+pub inner_of_item : (bs : List ℕ) → list_all is_item_byte bs ≡ true → list_all (λ b. not (b == 13)) bs ≡ true
 inner_of_item [] h = refl
 inner_of_item (b ∷ bs) h = both _ _ (neither_first (b == 13) (b == 35) (first _ _ h)) (inner_of_item bs (second _ _ h))
 
-no_comment : (line : List ℕ) → list_all is_item_byte line ≡ true → is_comment line ≡ false
+pub no_comment : (line : List ℕ) → list_all is_item_byte line ≡ true → is_comment line ≡ false
 no_comment [] h = refl
 no_comment (b ∷ bs) h =
     let other : (b == 35) ≡ false = not_false _ (neither_second (b == 13) (b == 35) (first _ _ h)) in
     ap (λ v. v && true) (ne_eqb 35 b (λ e. eqb-false b 35 other (sym e)))
 
-kept : (line : List ℕ) (more : List (List ℕ)) → is_comment line ≡ false → uncommented (line ∷ more) ≡ (line ++ (10 ∷ [])) ++ uncommented more
+pub kept : (line : List ℕ) (more : List (List ℕ)) → is_comment line ≡ false → uncommented (line ∷ more) ≡ (line ++ (10 ∷ [])) ++ uncommented more
 kept line more h = ap (λ v. flat_map (λ (l : List ℕ). l ++ (10 ∷ [])) (if not v then line ∷ filter (λ (l : List ℕ). not (is_comment l)) more else filter (λ (l : List ℕ). not (is_comment l)) more)) h
 
 -- behind a line begun, the lines of the text and its line feed give it back

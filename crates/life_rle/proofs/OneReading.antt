@@ -1,105 +1,21 @@
 -- A body word is read in one way.
 use Rattle.std.proofs.Common.{◌≡◌, ◌≢◌, ℕ, ◌-◌, ◌≤◌, ◌^◌, ◌⊎◌, Bool, true, false, List, [], ◌∷◌, ◌++◌, length, refl, sym, ap, ◌∙◌, subst, inl, inr, arith, Option, Some, None, leb, ◌&&◌, if◌then◌else◌, eqb, pos}
 use Rattle.std.specs.Char.{is_ascii_digit}
-use Rattle.std.specs.Str.{all_ascii_digits}
-use Rattle.std.proofs.lemmas.List.{append_assoc, append-nil}
-use Rattle.std.proofs.lemmas.Bool.{le-leb, lt-leb, and_from, and_left, and_right, and_parts, leb-true, cases_Bool, cases_lt, ne_eqb}
+use Rattle.std.proofs.lemmas.List.{append-nil}
+use Rattle.std.proofs.lemmas.Bool.{le-leb, lt-leb, and_from, and_left, and_right, cases_lt, ne_eqb}
 use Rattle.life_plane.specs.Plane.{Plane, same_plane}
 use Rattle.life_cells.specs.Cells.{cell}
+use Rattle.life_cells.specs.declared.cell.Cell.{Cell}
 use Rattle.life_rle.specs.declared.item.Item.{Item}
 use Rattle.life_rle.specs.declared.item.Tag.{Tag}
 use Rattle.life_rle.specs.declared.error.BodyError.{BodyError}
 use Rattle.life_rle.specs.declared.error.BodyError.TheVariants.{BadItem, BadCount, NoEnd, TooFar, TooMany, Memory}
 use Rattle.life_rle.specs.Numbers.{value}
 use Rattle.life_rle.specs.Items.{rows, columns, live, AreCells}
-use Rattle.life_rle.specs.Spelling.{SpellsItem, Spells, IsNone, IsCount, tag_of}
+use Rattle.life_rle.specs.Spelling.{Spells, IsNone, IsCount, tag_of}
 use Rattle.life_rle.specs.Text.{WordMeans}
 use Rattle.life_rle.specs.Faults.{IsNear, AreFine, IsFineWord, IsAtCount, IsNext, HasStray, GoesOn, HasBadCount, EndsEarly, IsTooFar, IsTooMany, IsFault, StopsWith, IsForLimit}
-use Rattle.life_rle.proofs.Counts.{one_count}
-
--- ---- one item
-
-digit_no_tag : (b : ℕ) → 48 ≤ b → b ≤ 57 → tag_of b ≡ None
-digit_no_tag b low high =
-    rw (ne_eqb b 98 (λ e. omega arith), ne_eqb b 46 (λ e. omega arith), ne_eqb b 111 (λ e. omega arith), ne_eqb b 65 (λ e. omega arith), ne_eqb b 36 (λ e. omega arith)) refl
-
--- a tag is no digit
-tag_no_digit : (b : ℕ) (tag : Tag) → tag_of b ≡ Some tag → is_ascii_digit b ≡ false
-tag_no_digit b tag e = elim (cases_Bool (is_ascii_digit b)) [
-  | inl h ↦ absurd (let range = and_parts _ _ h in let none = digit_no_tag b (leb-true 48 b range.0) (leb-true b 57 range.1) in cc)
-  | inr h ↦ h
-]
-
-count_digits : (digits : List ℕ) (n : ℕ) → IsCount digits n → all_ascii_digits digits ≡ true
-count_digits [] n h = refl
-count_digits (d ∷ ds) n h = h.0.digits.digits
-
-one_number : (digits : List ℕ) (m n : ℕ) → IsCount digits m → IsCount digits n → m ≡ n
-one_number [] m n g h = g ∙ sym h
-one_number (d ∷ ds) m n g h = sym g.0.is ∙ h.0.is
-
-no_gaps : (first : List ℕ) (item : Item) (s : SpellsItem IsNone first item) → first ≡ s.digits ++ (s.tag ∷ [])
-no_gaps first item s =
-    s.whole ∙ ap (λ (gap : List ℕ). ((gap ++ s.digits) ++ s.between) ++ (s.tag ∷ [])) s.gap_before
-    ∙ ap (λ (gap : List ℕ). (s.digits ++ gap) ++ (s.tag ∷ [])) s.gap_between ∙ ap (λ (bs : List ℕ). bs ++ (s.tag ∷ [])) (append-nil s.digits)
-
--- an item without gaps is the next one, whatever follows it
-next_of_item : (first : List ℕ) (item : Item) (s : SpellsItem IsNone first item) (more : List ℕ) → IsNext (first ++ more) item s.tag more
-next_of_item first item s more = record {
-  digits = s.digits;
-  at = record {
-    split = ap (λ (bs : List ℕ). bs ++ more) (no_gaps first item s) ∙ append_assoc s.digits (s.tag ∷ []) more;
-    digits_are = count_digits s.digits item.count s.count;
-    ended = λ b bs e. let same : s.tag ≡ b = cc in subst (λ (x : ℕ). is_ascii_digit x ≡ false) same (tag_no_digit s.tag item.tag s.tag_is);
-  };
-  count = s.count;
-  tag_is = s.tag_is;
-}
-
--- one item at most is the next, and what follows it is determined
-record IsSameNext (i j : Item) (t u : ℕ) (m n : List ℕ) : Type 0 where
-  item : i ≡ j
-  tag : t ≡ u
-  more : m ≡ n
-
-one_next : (rest : List ℕ) (i j : Item) (t u : ℕ) (m n : List ℕ) → IsNext rest i t m → IsNext rest j u n → IsSameNext i j t u m n
-one_next rest i j t u m n p q =
-    let same = one_count rest p.digits (t ∷ m) q.digits (u ∷ n) p.at q.at in
-    let tails = same.1 in
-    let tag : t ≡ u = cc in
-    let more : m ≡ n = cc in
-    let count : i.count ≡ j.count = one_number q.digits i.count j.count (subst (λ (ds : List ℕ). IsCount ds i.count) same.0 p.count) q.count in
-    let tag_p = p.tag_is in
-    let tag_q = q.tag_is in
-    let kind : i.tag ≡ j.tag = cc in
-    record { item = λ k. record { count = count k; tag = kind k }; tag = tag; more = more }
-
--- ---- items that are spelled go on with one another
-
--- the second items are the first ones and then more
-record GoesOnWith (items : List Item) (rest : List ℕ) (others : List Item) (last : List ℕ) : Type 0 where
-  more : List Item
-  between : List ℕ
-  items_are : others ≡ items ++ more
-  rest_is : rest ≡ between ++ last
-  spelled : Spells IsNone between more
-
-one_goes_on : (items others : List Item) (front before rest last : List ℕ) → Spells IsNone front items → Spells IsNone before others → front ++ rest ≡ before ++ last
-    → GoesOnWith items rest others last ⊎ GoesOnWith others last items rest
-one_goes_on [] others front before rest last p q e =
-    inl (record { more = others; between = before; items_are = refl; rest_is = ap (λ (bs : List ℕ). bs ++ rest) (sym p) ∙ e; spelled = q })
-one_goes_on (i ∷ items) [] front before rest last p q e =
-    inr (record { more = i ∷ items; between = front; items_are = refl; rest_is = ap (λ (bs : List ℕ). bs ++ last) (sym q) ∙ sym e; spelled = p })
-one_goes_on (i ∷ items) (j ∷ others) front before rest last p q e =
-    let whole : p.0 ++ (p.1.0 ++ rest) ≡ q.0 ++ (q.1.0 ++ last) =
-    sym (append_assoc p.0 p.1.0 rest) ∙ ap (λ (bs : List ℕ). bs ++ rest) (sym p.1.1.0) ∙ e ∙ ap (λ (bs : List ℕ). bs ++ last) q.1.1.0 ∙ append_assoc q.0 q.1.0 last in
-    let left = next_of_item p.0 i p.1.1.1.0 (p.1.0 ++ rest) in
-    let right = next_of_item q.0 j q.1.1.1.0 (q.1.0 ++ last) in
-    let same = one_next (q.0 ++ (q.1.0 ++ last)) i j _ _ (p.1.0 ++ rest) (q.1.0 ++ last) (subst (λ (bs : List ℕ). IsNext bs i p.1.1.1.0.tag (p.1.0 ++ rest)) whole left) right in
-    elim (one_goes_on items others p.1.0 q.1.0 rest last p.1.1.1.1 q.1.1.1.1 same.more) [
-      | inl h ↦ inl (record { more = h.more; between = h.between; items_are = (λ k. sym same.item k ∷ h.items_are k); rest_is = h.rest_is; spelled = h.spelled })
-      | inr h ↦ inr (record { more = h.more; between = h.between; items_are = (λ k. same.item k ∷ h.items_are k); rest_is = h.rest_is; spelled = h.spelled })
-    ]
+use Rattle.life_rle.specs.SpellingLaws.{one_count, one_number, end_count, no_next_at_end, none_ends_once, HasNext, GoesOnWith, one_goes_on, goes_on_by_item, IsSamePlace, same_place}
 
 -- ---- one fault at the front of a rest
 
@@ -278,70 +194,49 @@ limit_before_next word rest items e some fault item tag more next =
 
 -- ---- at the end
 
-end_count : IsAtCount (33 ∷ []) [] (33 ∷ [])
-end_count = record { split = refl; digits_are = refl; ended = λ b bs e. let same : 33 ≡ b = cc in subst (λ (x : ℕ). is_ascii_digit x ≡ false) same refl }
-
-no_next_at_end : (item : Item) (tag : ℕ) (more : List ℕ) → IsNext (33 ∷ []) item tag more → ⊥
-no_next_at_end item tag more n =
-    let same = (one_count (33 ∷ []) n.digits (tag ∷ more) [] (33 ∷ []) n.at end_count).1 in
-    let byte : tag ≡ 33 = cc in
-    let none : tag_of tag ≡ None = ap tag_of byte in
-    let is = n.tag_is in
-    cc
-
 no_fault_at_end : (word : List ℕ) (items : List Item) (e : BodyError) → e ≢ Memory → IsFault word (33 ∷ []) items e → ⊥
-no_fault_at_end word items (BadItem at) some (inl h) = (let same = (one_count (33 ∷ []) h.digits (h.byte ∷ h.more) [] (33 ∷ []) h.front end_count).1 in h.no_end cc)
+no_fault_at_end word items (BadItem at) some (inl h) = (let same = (one_count (33 ∷ []) h.digits (h.byte ∷ h.more) [] (33 ∷ []) h.front (end_count [])).1 in h.no_end cc)
 no_fault_at_end word items (BadItem at) some (inr h) = (let split = h.split in cc)
-no_fault_at_end word items (BadCount at) some h = good_or_bad word (33 ∷ []) [] 1 (33 ∷ []) at (record { front = end_count; count = refl; alone = λ bs e. refl }) h
+no_fault_at_end word items (BadCount at) some h = good_or_bad word (33 ∷ []) [] 1 (33 ∷ []) at (record { front = end_count []; count = refl; alone = λ bs e. refl }) h
 no_fault_at_end word items NoEnd some h = (let digits = h.digits in cc)
-no_fault_at_end word items (TooFar at) some h = no_next_at_end h.item h.tag h.more h.next
-no_fault_at_end word items (TooMany count) some h = no_next_at_end h.item h.tag h.more h.next
+no_fault_at_end word items (TooFar at) some h = no_next_at_end [] h.item h.tag h.more h.next
+no_fault_at_end word items (TooMany count) some h = no_next_at_end [] h.item h.tag h.more h.next
 no_fault_at_end word items Memory some h = some refl
 
--- ---- two readings end at one place
-
-record IsSamePlace (items : List Item) (rest : List ℕ) (others : List Item) (last : List ℕ) : Type 0 where
-  items_are : items ≡ others
-  rest_is : rest ≡ last
-
-record HasNext (rest : List ℕ) (item : Item) : Type 0 where
-  tag : ℕ
-  more : List ℕ
-  next : IsNext rest item tag more
-
-first_next : (rest between last : List ℕ) (i : Item) (more : List Item) → rest ≡ between ++ last → Spells IsNone between (i ∷ more) → HasNext rest i
-first_next rest between last i more e p =
-    let whole : p.0 ++ (p.1.0 ++ last) ≡ rest = sym (append_assoc p.0 p.1.0 last) ∙ ap (λ (bs : List ℕ). bs ++ last) (sym p.1.1.0) ∙ sym e in
-    record { tag = _; more = _; next = subst (λ (bs : List ℕ). IsNext bs i p.1.1.1.0.tag (p.1.0 ++ last)) whole (next_of_item p.0 i p.1.1.1.0 (p.1.0 ++ last)) }
-
-same_place : (items : List Item) (rest : List ℕ) (others : List Item) (last : List ℕ) (more : List Item) (between : List ℕ)
-    → others ≡ items ++ more → rest ≡ between ++ last → Spells IsNone between more → ((i : Item) (back : List Item) → others ≡ (items ++ (i ∷ [])) ++ back → HasNext rest i → ⊥)
-    → IsSamePlace items rest others last
-same_place items rest others last [] between e f p stops = record { items_are = sym (e ∙ append-nil items); rest_is = f ∙ ap (λ (bs : List ℕ). bs ++ last) p }
-same_place items rest others last (i ∷ more) between e f p stops = absurd (stops i more (e ∙ sym (append_assoc items (i ∷ []) more)) (first_next rest between last i more f p))
+-- an item of a word stands right at the front
+at_front : (rest : List ℕ) (i : Item) (after : List ℕ) (next : HasNext IsNone rest i after) → IsNext rest i next.tag after
+at_front rest i after next = subst (λ (bs : List ℕ). IsNext bs i next.tag after) (sym (next.split ∙ ap (λ (gap : List ℕ). gap ++ next.from) next.gap_is)) next.next
 
 -- a reading does not go on from a fault
 fault_stops : (word rest last : List ℕ) (items others : List Item) (e : BodyError) → e ≢ Memory → IsFault word rest items e → AreFine others
-    → GoesOnWith items rest others last → IsSamePlace items rest others last
+    → GoesOnWith IsNone items rest others last → IsSamePlace IsNone items rest others last
 fault_stops word rest last items others e some fault fine h =
-    same_place items rest others last h.more h.between h.items_are h.rest_is h.spelled
-    (λ i back is next. no_fault_before_next word rest items e some fault i next.tag next.more next.next (fine.near _ back is) (fine.few _ back is))
+    same_place IsNone items rest others last h
+    (λ i back after is next. no_fault_before_next word rest items e some fault i next.tag after (at_front rest i after next) (fine.near _ back is) (fine.few _ back is))
 
 -- nor from the end
-end_stops : (last : List ℕ) (items others : List Item) → GoesOnWith items (33 ∷ []) others last → IsSamePlace items (33 ∷ []) others last
-end_stops last items others h =
-    same_place items (33 ∷ []) others last h.more h.between h.items_are h.rest_is h.spelled (λ i back is next. no_next_at_end i next.tag next.more next.next)
+end_stops : (ignored last : List ℕ) (items others : List Item) → GoesOnWith IsNone items (33 ∷ ignored) others last → IsSamePlace IsNone items (33 ∷ ignored) others last
+end_stops ignored last items others h =
+    same_place IsNone items (33 ∷ ignored) others last h (λ i back after is next. no_next_at_end ignored i next.tag after (at_front (33 ∷ ignored) i after next))
+
+-- items that are spelled up to a `!` are the only ones
+pub one_list : (items others : List Item) (front before ignored last : List ℕ) → Spells IsNone front items → Spells IsNone before others → front ++ (33 ∷ ignored) ≡ before ++ (33 ∷ last) → items ≡ others
+one_list items others front before ignored last p q e =
+    elim (one_goes_on IsNone none_ends_once items others front before (33 ∷ ignored) (33 ∷ last) p q e) [
+      | inl h ↦ (end_stops ignored (33 ∷ last) items others h).items_are
+      | inr h ↦ sym (end_stops last (33 ∷ ignored) others items h).items_are
+    ]
 
 -- ---- the laws
 
-same_stop : (word : List ℕ) (e f : BodyError) (p : StopsWith word e) (q : StopsWith word f) → e ≢ Memory → f ≢ Memory → IsSamePlace p.items p.rest q.items q.rest → e ≡ f
+same_stop : (word : List ℕ) (e f : BodyError) (p : StopsWith word e) (q : StopsWith word f) → e ≢ Memory → f ≢ Memory → IsSamePlace IsNone p.items p.rest q.items q.rest → e ≡ f
 same_stop word e f p q some other same =
     one_fault word q.rest q.items e f some other
     (subst (λ (is : List Item). IsFault word q.rest is e) same.items_are (subst (λ (bs : List ℕ). IsFault word bs p.items e) same.rest_is p.fault)) q.fault
 
 pub one_refusal : (word : List ℕ) (e f : BodyError) → StopsWith word e → StopsWith word f → e ≢ Memory → f ≢ Memory → e ≡ f
 one_refusal word e f p q some other =
-    elim (one_goes_on p.items q.items p.read.front q.read.front p.rest q.rest p.read.spelled q.read.spelled (sym p.read.split ∙ q.read.split)) [
+    elim (one_goes_on IsNone none_ends_once p.items q.items p.read.front q.read.front p.rest q.rest p.read.spelled q.read.spelled (sym p.read.split ∙ q.read.split)) [
       | inl h ↦ same_stop word e f p q some other (fault_stops word p.rest q.rest p.items q.items e some p.fault q.read.fine h)
       | inr h ↦ sym (same_stop word f e q p other some (fault_stops word q.rest p.rest q.items p.items f other q.fault p.read.fine h))
     ]
@@ -352,9 +247,9 @@ stop_at_end word rest items e some fault at_end = no_fault_at_end word items e s
 pub fine_or_refused : (word : List ℕ) (e : BodyError) → IsFineWord word → StopsWith word e → e ≢ Memory → ⊥
 fine_or_refused word e fine p some =
     let read = fine.1 in
-    elim (one_goes_on p.items fine.0 p.read.front read.front p.rest (33 ∷ []) p.read.spelled read.spelled (sym p.read.split ∙ read.split)) [
+    elim (one_goes_on IsNone none_ends_once p.items fine.0 p.read.front read.front p.rest (33 ∷ []) p.read.spelled read.spelled (sym p.read.split ∙ read.split)) [
       | inl h ↦ stop_at_end word p.rest p.items e some p.fault (fault_stops word p.rest (33 ∷ []) p.items fine.0 e some p.fault read.fine h).rest_is
-      | inr h ↦ stop_at_end word p.rest p.items e some p.fault (sym (end_stops p.rest fine.0 p.items h).rest_is)
+      | inr h ↦ stop_at_end word p.rest p.items e some p.fault (sym (end_stops [] p.rest fine.0 p.items h).rest_is)
     ]
 
 same_bools : (a b : Bool) → (a ≡ true → b ≡ true) → (b ≡ true → a ≡ true) → a ≡ b
@@ -362,31 +257,27 @@ same_bools true b f g = sym (f refl)
 same_bools false true f g = g refl
 same_bools false false f g = refl
 
-same_cells : (items : List Item) (s t : Plane) → AreCells (cell (pos 0) (pos 0)) items s → AreCells (cell (pos 0) (pos 0)) items t → s ≡ t
-same_cells items s t p q = same_plane s t (λ x y. same_bools (s x y) (t x y) (λ h. q.all x y (p.made x y h)) (λ h. p.all x y (q.made x y h)))
+pub same_cells : (place : Cell) (items : List Item) (s t : Plane) → AreCells place items s → AreCells place items t → s ≡ t
+same_cells place items s t p q = same_plane s t (λ x y. same_bools (s x y) (t x y) (λ h. q.all x y (p.made x y h)) (λ h. p.all x y (q.made x y h)))
 
 one_word_meaning : (word : List ℕ) (s t : Plane) (p : WordMeans word s) (q : WordMeans word t) → p.items ≡ q.items → s ≡ t
-one_word_meaning word s t p q same = same_cells q.items s t (subst (λ (is : List Item). AreCells (cell (pos 0) (pos 0)) is s) same p.cells) q.cells
+one_word_meaning word s t p q same = same_cells (cell (pos 0) (pos 0)) q.items s t (subst (λ (is : List Item). AreCells (cell (pos 0) (pos 0)) is s) same p.cells) q.cells
 
 pub one_meaning : (word : List ℕ) (s t : Plane) → WordMeans word s → WordMeans word t → s ≡ t
-one_meaning word s t p q =
-    elim (one_goes_on p.items q.items p.written q.written (33 ∷ []) (33 ∷ []) p.items_are q.items_are (sym p.whole ∙ q.whole)) [
-      | inl h ↦ one_word_meaning word s t p q (end_stops (33 ∷ []) p.items q.items h).items_are
-      | inr h ↦ one_word_meaning word s t p q (sym (end_stops (33 ∷ []) q.items p.items h).items_are)
-    ]
+one_meaning word s t p q = one_word_meaning word s t p q (one_list p.items q.items p.written q.written [] [] p.items_are q.items_are (sym p.whole ∙ q.whole))
 
 meant_or_stops : (word : List ℕ) (e : BodyError) (p : StopsWith word e) (last : List ℕ) → e ≢ Memory → last ≡ 33 ∷ [] → (more : List Item) (between : List ℕ)
     → p.rest ≡ between ++ last → Spells IsNone between more → IsForLimit e
 meant_or_stops word e p last some end [] between f q = absurd (stop_at_end word p.rest p.items e some p.fault (f ∙ ap (λ (bs : List ℕ). bs ++ last) q ∙ end))
 meant_or_stops word e p last some end (i ∷ more) between f q =
-    let next = first_next p.rest between last i more f q in
-    limit_before_next word p.rest p.items e some p.fault i next.tag next.more next.next
+    let next = goes_on_by_item IsNone p.rest between last i more f q in
+    limit_before_next word p.rest p.items e some p.fault i next.1.tag next.0 (at_front p.rest i next.0 next.1)
 
 meant_or_memory : (word : List ℕ) (s : Plane) (e : BodyError) → WordMeans word s → StopsWith word e → e ≢ Memory → IsForLimit e
 meant_or_memory word s e m p some =
-    elim (one_goes_on p.items m.items p.read.front m.written p.rest (33 ∷ []) p.read.spelled m.items_are (sym p.read.split ∙ m.whole)) [
+    elim (one_goes_on IsNone none_ends_once p.items m.items p.read.front m.written p.rest (33 ∷ []) p.read.spelled m.items_are (sym p.read.split ∙ m.whole)) [
       | inl h ↦ meant_or_stops word e p (33 ∷ []) some refl h.more h.between h.rest_is h.spelled
-      | inr h ↦ absurd (stop_at_end word p.rest p.items e some p.fault (sym (end_stops p.rest m.items p.items h).rest_is))
+      | inr h ↦ absurd (stop_at_end word p.rest p.items e some p.fault (sym (end_stops [] p.rest m.items p.items h).rest_is))
     ]
 
 pub meant_for_limit : (word : List ℕ) (s : Plane) (e : BodyError) → WordMeans word s → StopsWith word e → IsForLimit e

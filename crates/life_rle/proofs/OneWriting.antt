@@ -14,7 +14,8 @@ use Rattle.life_rle.specs.declared.item.Tag.{Tag}
 use Rattle.life_rle.specs.declared.item.Tag.TheVariants.{Dead, Alive, RowEnd}
 use Rattle.life_rle.specs.Items.{is_row_end, is_alive, rows_of, rows, columns, IsMade, AreCells}
 use Rattle.life_rle.specs.Written.{may_follow, IsTidyAfter, IsTidy, IsTidyBody, IsFrame, IsRleText, IsBodyText, place_line, note_line, header_line, folded, pieces}
-use Rattle.life_rle.proofs.Made.{made_front, made_last, made_live, made_dead, rows_push, columns_ended, columns_longer, none_made}
+use Rattle.life_rle.specs.ItemLaws.{rows_push, columns_push_end, columns_push_other}
+use Rattle.life_rle.proofs.Made.{made_front, made_last, made_live, made_dead, none_made}
 
 -- ---- what items make from a cursor on
 
@@ -38,9 +39,9 @@ Draws left x y [] px py = ⊥
 Draws left x y (i ∷ is) px py = ((is_alive i.tag ≡ true) × InRun x y i.count px py) ⊎ Draws left (step_x left x i) (step_y y i) is px py
 
 cursor_x : (place : Cell) (front : List Item) (n : ℕ) (u : Tag) → place.x +ℤ pos (columns (front ++ (item_of n u ∷ []))) ≡ step_x place.x (place.x +ℤ pos (columns front)) (item_of n u)
-cursor_x place front n Dead = let e = columns_longer front (item_of n Dead) refl in omega (arith, ints)
-cursor_x place front n Alive = let e = columns_longer front (item_of n Alive) refl in omega (arith, ints)
-cursor_x place front n RowEnd = let e = columns_ended front (item_of n RowEnd) refl in omega (arith, ints)
+cursor_x place front n Dead = let e = columns_push_other front (item_of n Dead) refl in omega (arith, ints)
+cursor_x place front n Alive = let e = columns_push_other front (item_of n Alive) refl in omega (arith, ints)
+cursor_x place front n RowEnd = let e = columns_push_end front (item_of n RowEnd) refl in omega (arith, ints)
 
 cursor_y : (place : Cell) (front : List Item) (i : Item) → place.y +ℤ pos (rows (front ++ (i ∷ []))) ≡ step_y (place.y +ℤ pos (rows front)) i
 cursor_y place front i = let e = rows_push front i in omega (arith, ints)

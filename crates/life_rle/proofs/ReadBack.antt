@@ -17,11 +17,12 @@ use Rattle.life_rle.specs.Drawn.{AreSmall, IsSmallFrame}
 use Rattle.life_rle.proofs.Bytes.{both, first, second, all_append, is_inner}
 use Rattle.life_rle.proofs.Lining.{lines_first, strip_same, neither_first, neither_second, uncommented_same}
 use Rattle.life_rle.proofs.Spelled.{folded_spelled, folded_passes, word_spelled, word_whole}
+use Rattle.life_rle.proofs.Meaning.{feeds_white, items_white}
 use Rattle.life_rle.proofs.Heading.{IsNear, place_text, place_line_is, place_is_read, place_text_inner, header_text, header_line_is, header_text_inner, header_is_read}
 
 -- ---- the lines
 
-weaker : (p q : ℕ → Bool) → ((b : ℕ) → p b ≡ true → q b ≡ true) → (bs : List ℕ) → list_all p bs ≡ true → list_all q bs ≡ true
+pub weaker : (p q : ℕ → Bool) → ((b : ℕ) → p b ≡ true → q b ≡ true) → (bs : List ℕ) → list_all p bs ≡ true → list_all q bs ≡ true
 weaker p q f [] h = refl
 weaker p q f (b ∷ bs) h = both _ _ (f b (first _ _ h)) (weaker p q f bs (second _ _ h))
 
@@ -30,15 +31,15 @@ line_kept line rest h =
     lines_first line rest (weaker is_inner (λ b. not (b == 10)) (λ b k. neither_first (b == 10) (b == 13) k) line h) ∙
     ap (λ (l : List ℕ). l ∷ lines rest) (strip_same line (weaker is_inner (λ b. not (b == 13)) (λ b k. neither_second (b == 10) (b == 13) k) line h))
 
-abbrev note_text : List ℕ → List ℕ
+abbrev pub note_text : List ℕ → List ℕ
 note_text note = codes "#C " ++ note
 
-no_line_feed : (note : List ℕ) → AllByRecursion (λ b. b ≢ 10) note → list_all (λ b. not (b == 10)) note ≡ true
+pub no_line_feed : (note : List ℕ) → AllByRecursion (λ b. b ≢ 10) note → list_all (λ b. not (b == 10)) note ≡ true
 no_line_feed [] h = refl
 no_line_feed (b ∷ bs) h = both _ _ (ap not (ne_eqb b 10 h.0)) (no_line_feed bs h.1)
 
 -- the lines before the header; a carriage return at a note's end is none of it
-abbrev head_lines : Cell → Option (List ℕ) → List (List ℕ)
+abbrev pub head_lines : Cell → Option (List ℕ) → List (List ℕ)
 head_lines place None = place_text place ∷ []
 head_lines place (Some note) = place_text place ∷ strip_carriage_return (note_text note) ∷ []
 
@@ -72,11 +73,11 @@ note_is_comment note =
       | false ↦ refl
     ]
 
-passed_over : (place : Cell) (note : Option (List ℕ)) → AllByRecursion IsPassedOver (head_lines place note)
+pub passed_over : (place : Cell) (note : Option (List ℕ)) → AllByRecursion IsPassedOver (head_lines place note)
 passed_over place None = (inl refl, tt)
 passed_over place (Some note) = (inl refl, (inl (note_is_comment note), tt))
 
-place_found : (place : Cell) (note : Option (List ℕ)) → IsNear place.x → IsNear place.y → IsPlace (head_lines place note) place
+pub place_found : (place : Cell) (note : Option (List ℕ)) → IsNear place.x → IsNear place.y → IsPlace (head_lines place note) place
 place_found place None x y = place_is_read place x y
 place_found place (Some note) x y = place_is_read place x y
 
@@ -101,8 +102,8 @@ written_says place note width height items f n small =
       gap = spelled.gap;
       ignored = 10 ∷ [];
       body_is = uncommented_same body (folded_passes 0 items small) ∙ ap (λ t. t ++ (10 ∷ [])) spelled.whole ∙ append_assoc (spelled.written ++ spelled.gap) (33 ∷ []) (10 ∷ []);
-      gap_is = spelled.gap_is;
-      items_are = spelled.spelled;
+      gap_is = feeds_white spelled.gap spelled.gap_is;
+      items_are = items_white spelled.written items spelled.spelled;
     }
 
 pub written_means : (place : Cell) (note : Option (List ℕ)) (width height : ℕ) (items : List Item) (s : Plane) → IsSmallFrame place width height → HasNoLineBreak note → AreSmall items → AreCells place items s

@@ -1,5 +1,5 @@
 -- A body word that is read up to a rest.
-use Rattle.std.proofs.Common.{◌≡◌, ℕ, ◌+◌, ◌<◌, ◌≤◌, ◌^◌, true, List, [], ◌∷◌, ◌++◌, length, refl, sym, ap, ◌∙◌, subst, inl, inr, arith, pos, ℤ, ◌≤ℤ◌}
+use Rattle.std.proofs.Common.{◌≡◌, ℕ, ◌<◌, ◌≤◌, ◌^◌, true, List, [], ◌∷◌, ◌++◌, length, refl, sym, ap, ◌∙◌, subst, inl, inr, arith, pos, ℤ, ◌+ℤ◌, ◌≤ℤ◌}
 use Rattle.std.proofs.lemmas.Int.{ints}
 use Rattle.std.proofs.lemmas.List.{append_assoc, append-nil, length-append}
 use Rattle.life_plane.specs.Plane.{Plane}
@@ -19,7 +19,11 @@ use Rattle.life_rle.specs.Text.{WordMeans}
 use Rattle.life_rle.specs.Written.{IsNotNegative}
 use Rattle.life_rle.specs.Faults.{IsNear, AreFine, IsReadTo, IsFineWord, BeginsAt, IsNext, IsFault, StopsWith}
 use Rattle.life_rle.specs.Cursor.{IsBehind, IsWithin, Passes, item_cells}
+use Rattle.life_rle.specs.Reach.{IsInReach, cursor_behind}
 use Rattle.life_rle.proofs.Drawn.{IsDrawn, drawn_none, drawn_push}
+
+abbrev pub origin : Cell
+origin = cell (pos 0) (pos 0)
 
 -- the word is read up to the rest; the cursor is behind the items, and the cells are theirs
 pub record IsSoFar (word rest : List ℕ) (cursor : Cursor) (cells : List Cell) : Type 0 where
@@ -27,7 +31,7 @@ pub record IsSoFar (word rest : List ℕ) (cursor : Cursor) (cells : List Cell) 
   pub read : IsReadTo word rest items
   pub behind : IsBehind items cursor
   pub within : IsWithin cursor
-  pub drawn : IsDrawn items cursor cells
+  pub drawn : IsDrawn origin items cells
 
 pub so_far_start : (word : List ℕ) (cursor : Cursor) → IsBehind [] cursor → IsWithin cursor → IsSoFar word word cursor []
 so_far_start word cursor behind within = record {
@@ -35,18 +39,34 @@ so_far_start word cursor behind within = record {
   read = record { front = []; split = refl; spelled = refl; fine = fine_none };
   behind = behind;
   within = within;
-  drawn = drawn_none cursor;
+  drawn = drawn_none origin;
 }
 
 pub so_far_short : (word rest : List ℕ) (cursor : Cursor) (cells : List Cell) → IsSoFar word rest cursor cells → length rest ≤ length word
 so_far_short word rest cursor cells h = omega (arith, length-append h.read.front rest, ap length h.read.split)
+
+-- where the cursor of a word stands
+pub from_origin : (items : List Item) (c : Cursor) (first : Cell) → IsBehind items c → first ≡ cell (pos 0 +ℤ pos c.column) (pos 0 +ℤ pos c.row) → first ≡ cursor_behind origin items
+from_origin items c first behind is = is ∙ (λ k. cell (pos 0 +ℤ pos (behind.column k)) (pos 0 +ℤ pos (behind.row k)))
+
+-- the cursor is in reach
+pub origin_in_reach : IsInReach origin
+origin_in_reach = record { x = record { low = omega (arith, ints); high = omega (arith, ints) }; y = record { low = omega (arith, ints); high = omega (arith, ints) } }
+
+pub first_in_reach : (c : Cursor) (first : Cell) → IsWithin c → first ≡ cell (pos 0 +ℤ pos c.column) (pos 0 +ℤ pos c.row) → IsInReach first
+first_in_reach c first within is =
+    let x : first.x ≡ pos 0 +ℤ pos c.column = ap (λ (d : Cell). d.x) is in
+    let y : first.y ≡ pos 0 +ℤ pos c.row = ap (λ (d : Cell). d.y) is in
+    let row = within.row in
+    let column = within.column in
+    record { x = record { low = omega (arith, ints); high = omega (arith, ints) }; y = record { low = omega (arith, ints); high = omega (arith, ints) } }
 
 -- ---- one more item
 
 pub next_short : (rest : List ℕ) (item : Item) (tag : ℕ) (more : List ℕ) → IsNext rest item tag more → length more < length rest
 next_short rest item tag more n = omega (arith, length-append n.digits (tag ∷ more), ap length n.at.split)
 
-count_some : (digits : List ℕ) (n : ℕ) → IsCount digits n → 0 < n
+pub count_some : (digits : List ℕ) (n : ℕ) → IsCount digits n → 0 < n
 count_some [] n h = omega arith
 count_some (d ∷ ds) n h = h.1
 
@@ -70,8 +90,8 @@ near_from_cursor items c b row column = record { row = let p = b.row in omega ar
 module _ (word rest : List ℕ) (c d : Cursor) (cells : List Cell) (item : Item) (tag : ℕ) (more : List ℕ)
     (so_far : IsSoFar word rest c cells) (next : IsNext rest item tag more)
     (moves : (items : List Item) → IsBehind items c → IsBehind (items ++ (item ∷ [])) d) where
-  pub so_far_push : IsWithin d → IsSoFar word more d (cells ++ item_cells c item)
-  so_far_push within =
+  pub so_far_push : (first : Cell) → first ≡ cell (pos 0 +ℤ pos c.column) (pos 0 +ℤ pos c.row) → IsWithin d → IsSoFar word more d (cells ++ item_cells first item)
+  so_far_push first first_is within =
       let items = so_far.items in
       let behind = moves items so_far.behind in
       let front = so_far.read.front in
@@ -81,12 +101,13 @@ module _ (word rest : List ℕ) (c d : Cursor) (cells : List Cell) (item : Item)
         read = record {
           front = front ++ (next.digits ++ (tag ∷ []));
           split = so_far.read.split ∙ ap (λ bs. front ++ bs) next.at.split ∙ ap (λ bs. front ++ bs) (sym (append_assoc next.digits (tag ∷ []) more)) ∙ sym (append_assoc front (next.digits ++ (tag ∷ [])) more);
-          spelled = spells_push IsNone front (next.digits ++ (tag ∷ [])) items item so_far.read.spelled (next_spells rest item tag more next);
+          spelled = spells_push IsNone IsNone front (next.digits ++ (tag ∷ [])) items item so_far.read.spelled (next_spells rest item tag more next);
           fine = fine_push items item so_far.read.fine (near_from_cursor _ d behind within.row within.column) few;
         };
         behind = behind;
         within = within;
-        drawn = drawn_push items item c d cells (count_some next.digits item.count next.count) so_far.behind behind so_far.drawn;
+        drawn = subst (λ (e : Cell). IsDrawn origin (items ++ (item ∷ [])) (cells ++ item_cells e item)) (sym (from_origin items c first so_far.behind first_is))
+            (drawn_push origin items item cells (count_some next.digits item.count next.count) so_far.drawn);
       }
 
   limit_fault : (at : ℕ) → BeginsAt word (tag ∷ more) at → (e : BodyError) → Passes d at e → IsFault word rest so_far.items e
@@ -132,12 +153,14 @@ pub stops_without_memory : (word rest : List ℕ) (cursor : Cursor) (cells : Lis
 stops_without_memory word rest cursor cells e is h = subst (λ (e : BodyError). StopsWith word e) (sym is) (record { items = h.items; rest = rest; read = h.read; fault = tt })
 
 -- a live item that ends near has room for its cells
-pub column_fits : (items : List Item) (i : Item) (c d : Cursor) → i.tag ≡ Alive → IsBehind items c → IsBehind (items ++ (i ∷ [])) d → IsWithin d → c.column + i.count ≤ 2 ^ 40
-column_fits items i c d t behind after within =
+pub column_fits : (items : List Item) (i : Item) (c d : Cursor) (first : Cell) → i.tag ≡ Alive → IsBehind items c → IsBehind (items ++ (i ∷ [])) d → IsWithin d
+    → first ≡ cell (pos 0 +ℤ pos c.column) (pos 0 +ℤ pos c.row) → (first.x +ℤ pos i.count) ≤ℤ pos (2 ^ 40)
+column_fits items i c d first t behind after within is =
+    let x : first.x ≡ pos 0 +ℤ pos c.column = ap (λ (e : Cell). e.x) is in
     let p = behind.column in
     let q = after.column in
     let r = within.column in
-    omega (arith, columns_push_other items i (ap is_row_end t))
+    omega (arith, ints, columns_push_other items i (ap is_row_end t))
 
 -- ---- where the cells of fine items are
 

@@ -1,11 +1,14 @@
 -- Where items leave the cursor, and the cells of a row.
-use Rattle.std.specs.Prelude.{◌≡◌, ℕ, zero, suc, ◌+◌, ◌<◌, ◌≤◌, ◌^◌, ◌⊎◌, pos, List, [], ◌∷◌, ◌++◌, if◌then◌else◌}
+use Rattle.std.specs.Prelude.{◌≡◌, ℕ, zero, suc, ◌<◌, ◌≤◌, ◌^◌, ◌⊎◌, pos, ◌+ℤ◌, List, [], ◌∷◌, ◌++◌, if◌then◌else◌}
 use Rattle.life_cells.specs.Cells.{cell}
 use Rattle.life_cells.specs.declared.cell.Cell.{Cell}
 use Rattle.life_rle.specs.declared.cursor.Cursor.{Cursor}
 use Rattle.life_rle.specs.declared.item.Item.{Item}
 use Rattle.life_rle.specs.declared.error.BodyError.{BodyError}
 use Rattle.life_rle.specs.declared.error.BodyError.TheVariants.{BadItem, BadCount, NoEnd, TooFar, TooMany, Memory}
+use Rattle.life_rle.specs.declared.error.RleError.{RleError}
+use Rattle.life_rle.specs.declared.error.RleError.TheVariants as text
+use Rattle.life_rle.specs.Reach.{IsInReach}
 use Rattle.life_rle.specs.Items.{rows, columns, live, is_alive}
 
 -- the cursor is where these items leave it
@@ -29,11 +32,40 @@ Passes cursor at (BadCount place) = ⊥
 Passes cursor at NoEnd = ⊥
 Passes cursor at Memory = ⊥
 
--- cells of a row from a column on, so many
-abbrev pub row_cells : ℕ → ℕ → ℕ → List Cell
-row_cells column row zero = []
-row_cells column row (suc n) = row_cells column row n ++ (cell (pos (column + n)) (pos row) ∷ [])
+-- so far from its limits that one more item fits
+pub record HasRoom (cursor : Cursor) : Type 0 where
+  pub row : cursor.row ≤ 2 ^ 41
+  pub column : cursor.column ≤ 2 ^ 41
+  pub live : cursor.live ≤ 2 ^ 18
 
--- the cells of an item at the cursor
-abbrev pub item_cells : Cursor → Item → List Cell
-item_cells cursor item = if is_alive item.tag then row_cells cursor.column cursor.row item.count else []
+-- one more item was put behind such a cursor
+pub record HasMoved (cursor : Cursor) : Type 0 where
+  pub row : cursor.row < 2 ^ 62
+  pub column : cursor.column < 2 ^ 62
+
+-- the cursor is in reach where the first item is at the place, and there are few live cells behind it
+pub record IsWithinFrom (place : Cell) (cursor : Cursor) : Type 0 where
+  pub near : IsInReach (cell (place.x +ℤ pos cursor.column) (place.y +ℤ pos cursor.row))
+  pub live : cursor.live ≤ 2 ^ 18
+
+-- the limit that it passes behind the item with its tag at this place of the text
+abbrev pub PassesFrom : Cell → Cursor → ℕ → RleError → Type 0
+PassesFrom place cursor at (text.TooFar there) = (¬ IsInReach (cell (place.x +ℤ pos cursor.column) (place.y +ℤ pos cursor.row))) × (there ≡ at)
+PassesFrom place cursor at (text.TooMany count) = IsInReach (cell (place.x +ℤ pos cursor.column) (place.y +ℤ pos cursor.row)) × ((2 ^ 18 < cursor.live) × (count ≡ cursor.live))
+PassesFrom place cursor at text.NoHeader = ⊥
+PassesFrom place cursor at (text.BadHeader line) = ⊥
+PassesFrom place cursor at (text.BadRule line) = ⊥
+PassesFrom place cursor at (text.BadItem there) = ⊥
+PassesFrom place cursor at (text.BadCount there) = ⊥
+PassesFrom place cursor at text.NoEnd = ⊥
+PassesFrom place cursor at (text.NotYet there) = ⊥
+PassesFrom place cursor at text.Memory = ⊥
+
+-- cells of a row from a first one on, so many
+abbrev pub row_cells : Cell → ℕ → List Cell
+row_cells first zero = []
+row_cells first (suc n) = row_cells first n ++ (cell (first.x +ℤ pos n) first.y ∷ [])
+
+-- the cells of an item, the first of them being this
+abbrev pub item_cells : Cell → Item → List Cell
+item_cells first item = if is_alive item.tag then row_cells first item.count else []

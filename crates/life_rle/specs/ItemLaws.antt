@@ -8,7 +8,7 @@ use Rattle.life_cells.specs.declared.cell.Cell.{Cell}
 use Rattle.life_rle.specs.declared.item.Item.{Item}
 use Rattle.life_rle.specs.declared.item.Tag.TheVariants.{Alive}
 use Rattle.life_rle.specs.Items.{is_row_end, is_alive, rows_of, rows, has_row_end, last_row, columns, live, IsMade}
-use Rattle.life_rle.specs.Spelling.{SpellsItem, Spells}
+use Rattle.life_rle.specs.Spelling.{SpellsItemApart, SpellsApart}
 use Rattle.life_rle.specs.Faults.{IsNear, AreFine}
 
 -- ---- a list with one more element, split
@@ -96,11 +96,11 @@ fine_push items i fine near few = record {
 
 -- ---- spelled items
 
-pub spells_push : (Gap : List ℕ → Type 0) (front first : List ℕ) (items : List Item) (item : Item)
-    → Spells Gap front items → SpellsItem Gap first item → Spells Gap (front ++ first) (items ++ (item ∷ []))
-spells_push Gap front first [] item h s = (first, ([], (ap (λ bs. bs ++ first) h ∙ sym (append-nil first), (s, refl))))
-spells_push Gap front first (j ∷ items) item h s =
-    (h.0, (h.1.0 ++ first, (ap (λ bs. bs ++ first) h.1.1.0 ∙ append_assoc h.0 h.1.0 first, (h.1.1.1.0, spells_push Gap h.1.0 first items item h.1.1.1.1 s))))
+pub spells_push : (Before Between : List ℕ → Type 0) (front first : List ℕ) (items : List Item) (item : Item)
+    → SpellsApart Before Between front items → SpellsItemApart Before Between first item → SpellsApart Before Between (front ++ first) (items ++ (item ∷ []))
+spells_push Before Between front first [] item h s = (first, ([], (ap (λ bs. bs ++ first) h ∙ sym (append-nil first), (s, refl))))
+spells_push Before Between front first (j ∷ items) item h s =
+    (h.0, (h.1.0 ++ first, (ap (λ bs. bs ++ first) h.1.1.0 ∙ append_assoc h.0 h.1.0 first, (h.1.1.1.0, spells_push Before Between h.1.0 first items item h.1.1.1.1 s))))
 
 -- ---- the cells that items make
 

@@ -7,5 +7,11 @@ pub mod Written
 pub mod Drawn
 pub mod Faults
 pub mod ItemLaws
+pub mod SpellingLaws
+pub mod Lines
+pub mod PlainHeader
+pub mod Reach
+pub mod TextFaults
 pub mod Cursor
-pub mod PlainText
+pub mod Told
+pub mod Readers

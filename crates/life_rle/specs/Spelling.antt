@@ -32,19 +32,31 @@ IsWhite gap = AllByRecursion (λ b. is_white b ≡ true) gap
 abbrev pub IsNone : List ℕ → Type 0
 IsNone gap = gap ≡ []
 
--- one item, with such gaps before its count and before its tag
-pub record SpellsItem (Gap : List ℕ → Type 0) (text : List ℕ) (item : Item) : Type 0 where
+-- a list of line feeds, or nothing
+abbrev pub AreLineFeeds : List ℕ → Type 0
+AreLineFeeds gap = AllByRecursion (λ b. b ≡ 10) gap
+
+-- one item, with such a gap before its count, and such a one before its tag
+pub record SpellsItemApart (Before Between : List ℕ → Type 0) (text : List ℕ) (item : Item) : Type 0 where
   pub before : List ℕ
   pub digits : List ℕ
   pub between : List ℕ
   pub tag : ℕ
   pub whole : text ≡ ((before ++ digits) ++ between) ++ (tag ∷ [])
-  pub gap_before : Gap before
-  pub gap_between : Gap between
+  pub gap_before : Before before
+  pub gap_between : Between between
   pub count : IsCount digits item.count
   pub tag_is : tag_of tag ≡ Some item.tag
 
 -- items, one after the other
+abbrev pub SpellsApart : (List ℕ → Type 0) → (List ℕ → Type 0) → List ℕ → List Item → Type 0
+SpellsApart Before Between text [] = text ≡ []
+SpellsApart Before Between text (item ∷ items) =
+    (first : List ℕ) × ((rest : List ℕ) × ((text ≡ first ++ rest) × (SpellsItemApart Before Between first item × SpellsApart Before Between rest items)))
+
+-- the same, with one kind of gap in both places
+abbrev pub SpellsItem : (List ℕ → Type 0) → List ℕ → Item → Type 0
+SpellsItem Gap text item = SpellsItemApart Gap Gap text item
+
 abbrev pub Spells : (List ℕ → Type 0) → List ℕ → List Item → Type 0
-Spells Gap text [] = text ≡ []
-Spells Gap text (item ∷ items) = (first : List ℕ) × ((rest : List ℕ) × ((text ≡ first ++ rest) × (SpellsItem Gap first item × Spells Gap rest items)))
+Spells Gap text items = SpellsApart Gap Gap text items

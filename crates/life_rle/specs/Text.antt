@@ -44,9 +44,13 @@ abbrev pub IsPlaceIn : List (List ℕ) → Cell → Type 0
 IsPlaceIn [] place = place ≡ cell (pos 0) (pos 0)
 IsPlaceIn (w ∷ ws) place = IsPlaceWord w place ⊎ (((other : Cell) → IsPlaceWord w other → ⊥) × IsPlaceIn ws place)
 
--- the place that the lines before the header give: that of the first comment that begins with `#CXRLE`
+-- a line that may give the place: it begins with `#CXRLE`
+abbrev pub gives_place : List ℕ → Bool
+gives_place line = starts_with nat_eq line (codes "#CXRLE")
+
+-- the place that the lines before the header give: that of the first that begins so
 abbrev pub IsPlace : List (List ℕ) → Cell → Type 0
-IsPlace head place = MatchOption (find (λ line. starts_with nat_eq line (codes "#CXRLE")) head) (place ≡ cell (pos 0) (pos 0)) (λ line. IsPlaceIn (words line) place)
+IsPlace head place = MatchOption (find gives_place head) (place ≡ cell (pos 0) (pos 0)) (λ line. IsPlaceIn (words line) place)
 
 -- the rule's name, in any case of letters
 abbrev pub IsRuleName : List ℕ → Type 0

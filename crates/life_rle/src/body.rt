@@ -11,7 +11,7 @@ use crate::cells::add_cells;
 use crate::cursor::Cursor;
 use crate::error::BodyError;
 use crate::front::next_item;
-use life_cells::CellSet;
+use life_cells::{Cell, CellSet};
 use std::alloc::Global;
 
 /// The live cells of a body word, its first item at (0,0).
@@ -25,13 +25,14 @@ pub fn read_body(alloc: Global, word: &[u8]) -> Result<CellSet, BodyError>
     ensures few { IfOk result (λ cells. length (in_order cells) ≤ 2 ^ 18) }
     ensures refusal { IfErr result (λ e. StopsWith word.now e) }
 {
+    let origin = Cell::new(0, 0);
     let mut cells = Vec::new(alloc);
     let mut cursor = Cursor::start();
     let mut rest = word;
     while let Some(front) = next_item(word, rest)? {
         let next = cursor.behind(front.item);
         next.check(front.at)?;
-        add_cells(&mut cells, cursor, front.item)?;
+        add_cells(&mut cells, cursor.from_place(origin), front.item)?;
         cursor = next;
         rest = front.more;
     }
@@ -41,7 +42,6 @@ pub fn read_body(alloc: Global, word: &[u8]) -> Result<CellSet, BodyError>
 #[cfg(test)]
 mod tests {
     use super::*;
-    use life_cells::Cell;
     use std::test::Fail;
 
     #[test]

@@ -1,10 +1,9 @@
 //! The cursor that items move.
 
-use crate::error::BodyError;
+use crate::error::{BodyError, RleError};
 use crate::item::{Item, Tag};
-
-/// The greatest coordinate that is read.
-const FARTHEST: u64 = 1 << 40;
+use crate::reach::{FARTHEST, is_in_reach};
+use life_cells::Cell;
 
 /// The most live cells that are read.
 const MOST_LIVE: u64 = 1 << 18;
@@ -21,9 +20,11 @@ pub struct Cursor {
 }
 
 impl Cursor {
-    ghost use Rattle.std.specs.Prelude.{◌≡◌, ◌<◌, ◌^◌, [], ◌∷◌, ◌++◌, List, OnOk, IfErr};
+    ghost use Rattle.std.specs.Prelude.{◌≡◌, ◌<◌, ◌^◌, [], ◌∷◌, ◌++◌, List, pos, ◌+ℤ◌, OnOk, IfErr};
+    ghost use Rattle.life_cells.specs.Cells.{cell};
     ghost use Rattle.life_rle.specs.declared.item.Item.{Item};
-    ghost use Rattle.life_rle.specs.Cursor.{IsBehind, IsWithin, Passes};
+    ghost use Rattle.life_rle.specs.Cursor.{IsBehind, HasRoom, HasMoved, IsWithin, IsWithinFrom, Passes, PassesFrom};
+    ghost use Rattle.life_rle.specs.Reach.{IsInReach};
 
     /// The cursor before the first item.
     pub fn start() -> Cursor
@@ -35,7 +36,7 @@ impl Cursor {
 
     /// The cursor behind one more item.
     pub fn behind(self, item: Item) -> Cursor
-        requires within { IsWithin self }
+        requires room { HasRoom self }
         requires small { item.count < 10 ^ 18 }
         ensures { (items : List Item) → IsBehind items self → IsBehind (items ++ (item ∷ [])) result }
     {
@@ -67,6 +68,31 @@ impl Cursor {
         }
         if self.live > MOST_LIVE {
             return Err(BodyError::TooMany { count: self.live });
+        }
+        Ok(())
+    }
+
+    /// Where it stands, the first item being at this place.
+    pub fn from_place(self, place: Cell) -> Cell
+        requires place { IsInReach place }
+        requires room { HasMoved self }
+        ensures { result ≡ cell (place.x +ℤ pos self.column) (place.y +ℤ pos self.row) }
+    {
+        Cell::new(place.x + self.column as i64, place.y + self.row as i64)
+    }
+
+    /// The same refusals where the first item is at this place.
+    pub fn check_from(self, place: Cell, at: u64) -> Result<(), RleError>
+        requires place { IsInReach place }
+        requires room { HasMoved self }
+        ensures ok { OnOk result (IsWithinFrom place self) }
+        ensures err { IfErr result (λ e. PassesFrom place self at e) }
+    {
+        if !is_in_reach(self.from_place(place)) {
+            return Err(RleError::TooFar { at });
+        }
+        if self.live > MOST_LIVE {
+            return Err(RleError::TooMany { count: self.live });
         }
         Ok(())
     }

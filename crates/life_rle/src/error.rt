@@ -1,7 +1,8 @@
 //! The refusals of the readers. Bytes count from 0 and lines from 1.
 
 ghost use Rattle.std.specs.Prelude.{◌≡◌};
-ghost use Rattle.life_rle.specs.declared.error.BodyError.TheVariants.{Memory};
+ghost use Rattle.life_rle.specs.declared.error.BodyError.TheVariants as body;
+ghost use Rattle.life_rle.specs.declared.error.RleError.TheVariants as text;
 
 use life_cells::NoMemory;
 use thiserror::Error;
@@ -65,9 +66,17 @@ pub enum BodyError {
 }
 
 impl From<NoMemory> for BodyError {
-    ghost from_gives = { λ _ e. e ≡ Memory };
+    ghost from_gives = { λ _ e. e ≡ body.Memory };
 
     fn from(_: NoMemory) -> Self {
         BodyError::Memory
+    }
+}
+
+impl From<NoMemory> for RleError {
+    ghost from_gives = { λ _ e. e ≡ text.Memory };
+
+    fn from(_: NoMemory) -> Self {
+        RleError::Memory
     }
 }

@@ -21,7 +21,7 @@ pub struct Front<'a> {
 }
 
 /// The tag that a byte spells.
-fn read_tag(byte: u8) -> Option<Tag>
+pub fn read_tag(byte: u8) -> Option<Tag>
     ensures { result ≡ tag_of byte }
 {
     match byte {
@@ -32,8 +32,8 @@ fn read_tag(byte: u8) -> Option<Tag>
     }
 }
 
-/// The place of a word at which a rest of it begins.
-fn place(word: &[u8], rest: &[u8]) -> u64
+/// The place in a word, in bytes, at which a rest of it begins.
+pub fn offset(word: &[u8], rest: &[u8]) -> u64
     requires { length rest.now ≤ length word.now }
     ensures { BeginsAt word.now rest.now result }
 {
@@ -51,7 +51,7 @@ fn read_end(word: &[u8], rest: &[u8], after: &[u8]) -> Result<(), BodyError>
         Ok(())
     } else {
         Err(BodyError::BadItem {
-            at: place(word, after),
+            at: offset(word, after),
         })
     }
 }
@@ -67,7 +67,7 @@ pub fn next_item<'a>(word: &[u8], rest: &'a [u8]) -> Result<Option<Front<'a>>, B
     let (digits, more) = split_digits(rest);
     let Some(count) = count_of(digits) else {
         return Err(BodyError::BadCount {
-            at: place(word, rest),
+            at: offset(word, rest),
         });
     };
     let Some((byte, after)) = more.split_first() else {
@@ -76,13 +76,13 @@ pub fn next_item<'a>(word: &[u8], rest: &'a [u8]) -> Result<Option<Front<'a>>, B
     if *byte == b'!' {
         if !digits.is_empty() {
             return Err(BodyError::BadCount {
-                at: place(word, rest),
+                at: offset(word, rest),
             });
         }
         read_end(word, rest, after)?;
         return Ok(None);
     }
-    let at = place(word, more);
+    let at = offset(word, more);
     match read_tag(*byte) {
         Some(tag) => Ok(Some(Front {
             item: Item { count, tag },

@@ -1,16 +1,14 @@
 //! The header of a text, in the one spelling that is read so far.
 
 ghost use Rattle.std.specs.Prelude.{◌≡◌, ℕ, ◌↔◌, ◌++◌, List, IsTrue, IfSome, IfNone};
-ghost use Rattle.std.specs.List.{position};
-ghost use Rattle.std.specs.Str.Lines.{strip_carriage_return};
 ghost use Rattle.life_rle.specs.Faults.{IsAtCount};
 ghost use Rattle.life_rle.specs.Numbers.{IsNatural};
-ghost use Rattle.life_rle.specs.PlainText.{IsPlainHeader, first_line, behind, is_line_feed, front};
+ghost use Rattle.life_rle.specs.PlainHeader.{IsPlainHeader};
 
 use crate::digits::{MOST_DIGITS, split_digits};
 
 /// What follows a word at the front of bytes.
-fn skip<'a>(bytes: &'a [u8], word: &[u8]) -> Option<&'a [u8]>
+pub fn skip<'a>(bytes: &'a [u8], word: &[u8]) -> Option<&'a [u8]>
     ensures some { IfSome result (λ rest. bytes.now ≡ word.now ++ rest.now) }
     ensures none { IfNone result ((rest : List ℕ) → bytes.now ≡ word.now ++ rest → ⊥) }
 {
@@ -47,32 +45,4 @@ pub fn is_plain_header(line: &[u8]) -> bool
         return false;
     };
     behind_height == b", rule = B3/S23".as_slice()
-}
-
-/// A line without the carriage return at its end.
-fn strip_return(line: &[u8]) -> &[u8]
-    ensures { result.now ≡ strip_carriage_return line.now }
-{
-    match line.split_last() {
-        Some((b'\r', before)) => before,
-        _ => line,
-    }
-}
-
-/// Where a text has its first line feed.
-fn first_line_feed(text: &[u8]) -> Option<usize>
-    ensures { result ≡ position is_line_feed text.now }
-{
-    text.iter().position(|b| *b == b'\n')
-}
-
-/// The first line of a text, and what follows its line feed.
-pub fn split_line(text: &[u8]) -> (&[u8], &[u8])
-    ensures line { result.0.now ≡ first_line text.now }
-    ensures rest { result.1.now ≡ behind text.now }
-{
-    match first_line_feed(text) {
-        Some(end) => (strip_return(&text[..end]), &text[end + 1..]),
-        None => text.split_at(text.len()),
-    }
 }

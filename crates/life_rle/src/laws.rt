@@ -5,9 +5,11 @@ ghost use Rattle.std.specs.Prelude.{◌≡◌, ◌≢◌, ℕ, List};
 ghost use Rattle.life_plane.specs.Plane.{Plane};
 ghost use Rattle.life_rle.specs.declared.error.BodyError.{BodyError};
 ghost use Rattle.life_rle.specs.declared.error.RleError.{RleError};
-ghost use Rattle.life_rle.specs.Text.{WordMeans};
+ghost use Rattle.life_cells.specs.declared.cell.Cell.{Cell};
+ghost use Rattle.life_rle.specs.declared.item.Item.{Item};
+ghost use Rattle.life_rle.specs.Text.{Says, Means, WordMeans};
 ghost use Rattle.life_rle.specs.Faults.{IsFineWord, IsForLimit, StopsWith};
-ghost use Rattle.life_rle.specs.PlainText.{IsPlainText, TextStopsWith};
+ghost use Rattle.life_rle.specs.TextFaults.{IsFineText, TextStopsWith};
 
 use crate::error::{BodyError, RleError};
 
@@ -36,7 +38,17 @@ pub fn texts_have_one_refusal()
     ensures { (text : List ℕ) (e f : RleError) → TextStopsWith text e → TextStopsWith text f → e ≢ RleError.Memory → f ≢ RleError.Memory → e ≡ f }
 {}
 
-/// A text in the one form has none.
-pub fn plain_texts_have_no_refusal()
-    ensures { (text : List ℕ) (e : RleError) → IsPlainText text → TextStopsWith text e → e ≢ RleError.Memory → ⊥ }
+/// A text of the form that is read, within the limits, has none.
+pub fn fine_texts_have_no_refusal()
+    ensures { (text : List ℕ) (e : RleError) → IsFineText text → TextStopsWith text e → e ≢ RleError.Memory → ⊥ }
+{}
+
+/// A text says one place and one list of items, wherever it has comments, white space and blanks.
+pub fn texts_say_one_list()
+    ensures { (text : List ℕ) (place other : Cell) (items others : List Item) → Says text place items → Says text other others → (place ≡ other) × (items ≡ others) }
+{}
+
+/// So it means one set of live cells.
+pub fn texts_mean_one_plane()
+    ensures { (text : List ℕ) (s t : Plane) → Means text s → Means text t → s ≡ t }
 {}

@@ -2,4 +2,10 @@
 #![tactic(auto)]
 
 #[cfg(test)]
-mod tests;
+mod compile_tests;
+#[cfg(test)]
+mod replay_tests;
+#[cfg(test)]
+mod runs;
+#[cfg(test)]
+mod word_tests;

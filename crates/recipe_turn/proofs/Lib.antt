@@ -5,4 +5,14 @@ pub mod Comparisons
 pub mod Delays
 pub mod Spacing
 pub mod Ranges
-pub mod Walk
+pub mod NamedKinds
+pub mod Fronts
+pub mod Looking
+pub mod Refused
+pub mod Courses
+pub mod Made
+pub mod OneRefusal
+pub mod Reaching
+pub mod Trying
+pub mod Counting
+pub mod OneNumber

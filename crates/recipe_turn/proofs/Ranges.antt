@@ -10,7 +10,7 @@ use Rattle.life_cells.specs.BoxLaws.{range_union}
 use Rattle.book_parts.specs.Limits.{AreProper, IsPlaced}
 use Rattle.book_parts.specs.declared.settings.Settings.{Settings}
 use Rattle.recipe_turn.specs.Turn.{gliders}
-use Rattle.recipe_turn.specs.Range.{IsDelay}
+use Rattle.recipe_turn.specs.Range.{IsDelay, IsWithinReach}
 use Rattle.recipe_turn.proofs.Comparisons.{true≢false}
 
 -- a place with coordinates from -n to n
@@ -51,3 +51,14 @@ start_in_range settings proper kind placed ds near =
     let px = placed.x x y h in let py = placed.y x y h in
     record { left = omega (arith, ints); right = omega (arith, ints); above = omega (arith, ints); below = omega (arith, ints) }))
     (all_around (2 ^ 40) (gliders settings ds (pos 0)) (gliders_around settings proper ds near))
+
+-- a kind has coordinates that a step keeps
+pub placed_in_range : (s : Plane) → IsPlaced s → IsInRange (2 ^ 61) s
+placed_in_range s placed =
+    all_around (2 ^ 61) s (λ x y h.
+    let px = placed.x x y h in let py = placed.y x y h in
+    record { left = omega (arith, ints); right = omega (arith, ints); above = omega (arith, ints); below = omega (arith, ints) })
+
+-- a cell of a set in range
+pub live_within : (s : Plane) → IsInRange (2 ^ 41) s → (x y : ℤ) → s x y ≡ true → IsWithinReach x y
+live_within s h x y live = record { left = h.x_low x y live; right = h.x_high x y live; above = h.y_low x y live; below = h.y_high x y live }

@@ -1,61 +1,101 @@
 -- The gaps of a list of delays, place by place.
-use Rattle.std.proofs.Common.{◌≡◌, ℕ, ◌+◌, ◌-◌, ◌<◌, ◌≤◌, ℤ, pos, ◌+ℤ◌, ◌≤ℤ◌, ◌<ℤ◌, ◌↔◌, IsTrue, List, [], ◌∷◌, length, get_or, drop, sym, subst, arith}
-use lib.Signed.{le_z}
+use Rattle.std.proofs.Common.{◌≡◌, ℕ, zero, suc, ◌+◌, ◌-◌, ◌<◌, ◌≤◌, ℤ, pos, ◌+ℤ◌, ◌≤ℤ◌, ◌<ℤ◌, List, [], ◌∷◌, ◌++◌, length, get_or, take, drop, sym, ap, subst, ◌∙◌, arith}
 use Rattle.std.proofs.lemmas.Int.{ints}
-use Rattle.std.proofs.lemmas.List.{at_drop_more, drop_all}
+use Rattle.std.proofs.lemmas.List.{at_drop_more, take-append-drop, take_more, take_all, length-take-le}
 use Rattle.recipe_turn.specs.Turn.{AreSpaced, AreSpacedFrom}
-use Rattle.recipe_turn.proofs.Comparisons.{le_from_test, test_from_le}
+use Rattle.recipe_turn.specs.Gaps.{AreApart, AreApartFrom, IsFirstNarrow}
 
--- the delays are spaced exactly where those from a place on are
-abbrev pub IsSpacedOn : List ℤ → ℤ → ℕ → Type 0
-IsSpacedOn ds n place = AreSpaced ds n ↔ AreSpacedFrom (get_or ds (place - 1) (pos 0)) (drop place ds) n
+-- ---- one more delay
 
-pub spaced_first : (ds : List ℤ) (n : ℤ) → 0 < length ds → get_or ds 0 (pos 0) ≡ pos 0 → IsSpacedOn ds n 1
-spaced_first [] n some first = absurd (omega arith)
-spaced_first (d ∷ ds) n some first = (λ h. h.1, λ h. (first, h))
+push_from : (before : ℤ) (ds : List ℤ) (k : ℕ) → k < length ds → AreApartFrom before (take k ds) → (get_or (before ∷ ds) k (pos 0) +ℤ pos 20) ≤ℤ get_or ds k (pos 0) →
+    AreApartFrom before (take k ds ++ (get_or ds k (pos 0) ∷ []))
+push_from before [] k lt h gap = absurd (omega arith)
+push_from before (d ∷ ds) zero lt h gap = (gap, tt)
+push_from before (d ∷ ds) (suc k) lt h gap = (h.0, push_from d ds k (omega arith) h.1 gap)
 
-next_delay : (ds : List ℤ) (place : ℕ) → place < length ds → drop place ds ≡ get_or ds place (pos 0) ∷ drop (place + 1) ds
-next_delay ds place lt = at_drop_more (λ xs. xs) ds place (pos 0) lt
+narrow_from : (before : ℤ) (ds : List ℤ) (k : ℕ) → k < length ds → get_or ds k (pos 0) <ℤ (get_or (before ∷ ds) k (pos 0) +ℤ pos 20) →
+    AreApartFrom before (take k ds ++ (get_or ds k (pos 0) ∷ [])) → ⊥
+narrow_from before [] k lt gap h = absurd (omega arith)
+narrow_from before (d ∷ ds) zero lt gap h = let wide = h.0 in omega (arith, ints, wide, gap)
+narrow_from before (d ∷ ds) (suc k) lt gap h = narrow_from d ds k (omega arith) gap h.1
 
-one_back : (place : ℕ) → place + 1 - 1 ≡ place
-one_back place = omega arith
+pub apart_first : (ds : List ℤ) → 0 < length ds → get_or ds 0 (pos 0) ≡ pos 0 → AreApart (take 1 ds)
+apart_first [] some first = absurd (omega arith)
+apart_first (d ∷ ds) some first = (first, tt)
 
--- a gap that is wide enough leaves those after it
-pub spaced_more : (ds : List ℤ) (n : ℤ) (place : ℕ) → place < length ds → IsSpacedOn ds n place →
-    (get_or ds (place - 1) (pos 0) +ℤ pos 20) ≤ℤ get_or ds place (pos 0) → IsSpacedOn ds n (place + 1)
-spaced_more ds n place lt is gap =
-    let P : List ℤ → Type 0 = λ xs. AreSpacedFrom (get_or ds (place - 1) (pos 0)) xs n in
-    let Q : ℕ → Type 0 = λ k. AreSpacedFrom (get_or ds k (pos 0)) (drop (place + 1) ds) n in
-    let cons = next_delay ds place lt in (
-      λ h. subst Q (sym (one_back place)) (subst P cons (is.0 h)).1,
-      λ h. is.1 (subst P (sym cons) (gap, subst Q (one_back place) h)),
-    )
+push_at : (ds : List ℤ) (k : ℕ) → suc k < length ds → AreApart (take (suc k) ds) → (get_or ds k (pos 0) +ℤ pos 20) ≤ℤ get_or ds (suc k) (pos 0) →
+    AreApart (take (suc k) ds ++ (get_or ds (suc k) (pos 0) ∷ []))
+push_at [] k lt h gap = absurd (omega arith)
+push_at (d ∷ ds) k lt h gap = (h.0, push_from d ds k (omega arith) h.1 gap)
 
--- one that is not ends it
-pub spaced_not : (ds : List ℤ) (n : ℤ) (place : ℕ) → place < length ds → IsSpacedOn ds n place →
-    get_or ds place (pos 0) <ℤ (get_or ds (place - 1) (pos 0) +ℤ pos 20) → AreSpaced ds n → ⊥
-spaced_not ds n place lt is gap h =
-    let P : List ℤ → Type 0 = λ xs. AreSpacedFrom (get_or ds (place - 1) (pos 0)) xs n in
-    let wide = (subst P (next_delay ds place lt) (is.0 h)).0 in
-    omega (arith, ints, wide, gap)
+narrow_at : (ds : List ℤ) (k : ℕ) → suc k < length ds → get_or ds (suc k) (pos 0) <ℤ (get_or ds k (pos 0) +ℤ pos 20) → AreApart (take (suc k) ds ++ (get_or ds (suc k) (pos 0) ∷ [])) → ⊥
+narrow_at [] k lt gap h = absurd (omega arith)
+narrow_at (d ∷ ds) k lt gap h = narrow_from d ds k (omega arith) gap h.1
 
--- after the last delay comes the end
-pub spaced_end : (ds : List ℤ) (n : ℤ) (place : ℕ) → length ds ≤ place → IsSpacedOn ds n place → AreSpaced ds n ↔ ((get_or ds (place - 1) (pos 0) +ℤ pos 20) ≤ℤ n)
-spaced_end ds n place long is =
-    let P : List ℤ → Type 0 = λ xs. AreSpacedFrom (get_or ds (place - 1) (pos 0)) xs n in
-    let none = drop_all place ds long in
-    (λ h. subst P none (is.0 h), λ h. is.1 (subst P (sym none) h))
+one_up : (place : ℕ) → 1 ≤ place → suc (place - 1) ≡ place
+one_up place some = omega arith
 
--- a first delay that is not 0, or none
-pub first_not : (ds : List ℤ) (n : ℤ) → (get_or ds 0 (pos 0) ≡ pos 0 → ⊥) → AreSpaced ds n → ⊥
-first_not [] n other h = h
-first_not (d ∷ ds) n other h = other h.0
+-- a gap that is wide enough
+pub apart_more : (ds : List ℤ) (place : ℕ) → 1 ≤ place → place < length ds → AreApart (take place ds) → (get_or ds (place - 1) (pos 0) +ℤ pos 20) ≤ℤ get_or ds place (pos 0) →
+    AreApart (take (place + 1) ds)
+apart_more ds place some lt h gap =
+    let P : ℕ → Type 0 = λ p. p < length ds → AreApart (take p ds) → (get_or ds (place - 1) (pos 0) +ℤ pos 20) ≤ℤ get_or ds p (pos 0) → AreApart (take p ds ++ (get_or ds p (pos 0) ∷ [])) in
+    subst AreApart (sym (take_more ds place (pos 0) lt)) (subst P (one_up place some) (push_at ds (place - 1)) lt h gap)
 
--- the test of the end
-pub end_decides : (ds : List ℤ) (n : ℤ) (place : ℕ) (end total : ℤ) → length ds ≤ place → IsSpacedOn ds n place → end ≡ get_or ds (place - 1) (pos 0) +ℤ pos 20 → total ≡ n →
-    IsTrue (le_z end total) ↔ AreSpaced ds n
-end_decides ds n place end total long is ee et =
-    let both = spaced_end ds n place long is in (
-      λ h. let le = le_from_test end total h in both.1 (omega (arith, ints, le, ee, et)),
-      λ h. let le = both.0 h in test_from_le end total (omega (arith, ints, le, ee, et)),
-    )
+-- ---- one that is not
+
+narrow_here : (ds : List ℤ) (place : ℕ) → place < length ds → AreApart (take place ds) → (AreApart (take place ds ++ (get_or ds place (pos 0) ∷ [])) → ⊥) → IsFirstNarrow ds (place + 1)
+narrow_here ds place lt h narrow = record {
+  front = take place ds;
+  here = get_or ds place (pos 0);
+  back = drop (place + 1) ds;
+  split = sym (take-append-drop place ds) ∙ ap (λ rest. take place ds ++ rest) (at_drop_more (λ xs. xs) ds place (pos 0) lt);
+  place_is = ap (λ k. k + 1) (sym (length-take-le place ds (omega arith)));
+  before = h;
+  narrow = narrow;
+}
+
+pub first_is_narrow : (ds : List ℤ) → 0 < length ds → (get_or ds 0 (pos 0) ≡ pos 0 → ⊥) → IsFirstNarrow ds 1
+first_is_narrow ds some other = narrow_here ds 0 some tt (λ h. other h.0)
+
+pub is_narrow : (ds : List ℤ) (place : ℕ) → 1 ≤ place → place < length ds → AreApart (take place ds) → get_or ds place (pos 0) <ℤ (get_or ds (place - 1) (pos 0) +ℤ pos 20) →
+    IsFirstNarrow ds (place + 1)
+is_narrow ds place some lt h gap =
+    let P : ℕ → Type 0 = λ p. p < length ds → get_or ds p (pos 0) <ℤ (get_or ds (place - 1) (pos 0) +ℤ pos 20) → AreApart (take p ds ++ (get_or ds p (pos 0) ∷ [])) → ⊥ in
+    narrow_here ds place lt h (subst P (one_up place some) (narrow_at ds (place - 1)) lt gap)
+
+pub apart_all : (ds : List ℤ) (place : ℕ) → length ds ≤ place → AreApart (take place ds) → AreApart ds
+apart_all ds place long h = subst AreApart (take_all place ds long) h
+
+-- ---- the end
+
+end_from : (before : ℤ) (ds : List ℤ) (n : ℤ) → AreApartFrom before ds → (get_or (before ∷ ds) (length ds) (pos 0) +ℤ pos 20) ≤ℤ n → AreSpacedFrom before ds n
+end_from before [] n h last = last
+end_from before (d ∷ ds) n h last = (h.0, end_from d ds n h.1 last)
+
+short_from : (before : ℤ) (ds : List ℤ) (n : ℤ) → n <ℤ (get_or (before ∷ ds) (length ds) (pos 0) +ℤ pos 20) → AreSpacedFrom before ds n → ⊥
+short_from before [] n short h = omega (arith, ints, h, short)
+short_from before (d ∷ ds) n short h = short_from d ds n short h.1
+
+-- delays that are apart, with the end 20 after the last
+pub spaced : (ds : List ℤ) (n : ℤ) (last : ℕ) → last + 1 ≡ length ds → AreApart ds → (get_or ds last (pos 0) +ℤ pos 20) ≤ℤ n → AreSpaced ds n
+spaced [] n last is h end_after = absurd (omega arith)
+spaced (d ∷ ds) n last is h end_after =
+    let at_end : last ≡ length ds = omega arith in
+    (h.0, end_from d ds n h.1 (subst (λ k. (get_or (d ∷ ds) k (pos 0) +ℤ pos 20) ≤ℤ n) at_end end_after))
+
+-- and with an earlier end
+pub not_spaced : (ds : List ℤ) (n : ℤ) (last : ℕ) → last + 1 ≡ length ds → n <ℤ (get_or ds last (pos 0) +ℤ pos 20) → AreSpaced ds n → ⊥
+not_spaced [] n last is short h = absurd (omega arith)
+not_spaced (d ∷ ds) n last is short h =
+    let at_end : last ≡ length ds = omega arith in
+    short_from d ds n (subst (λ k. n <ℤ (get_or (d ∷ ds) k (pos 0) +ℤ pos 20)) at_end short) h.1
+
+-- delays that are spaced are apart
+apart_from_spaced : (before : ℤ) (ds : List ℤ) (n : ℤ) → AreSpacedFrom before ds n → AreApartFrom before ds
+apart_from_spaced before [] n h = tt
+apart_from_spaced before (d ∷ ds) n h = (h.0, apart_from_spaced d ds n h.1)
+
+pub spaced_apart : (ds : List ℤ) (n : ℤ) → AreSpaced ds n → AreApart ds
+spaced_apart [] n h = absurd h
+spaced_apart (d ∷ ds) n h = (h.0, apart_from_spaced d ds n h.1)

@@ -1,5 +1,11 @@
 -- What makes a kind of elbow valid, and a turn at it sound.
 pub mod Kind
 pub mod Turn
-pub mod Bounds
+pub mod Gaps
+pub mod Breaches
 pub mod Range
+pub mod Checked
+pub mod Refusals
+pub mod Elbows
+pub mod Steps
+pub mod SameElbows

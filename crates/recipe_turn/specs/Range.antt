@@ -1,6 +1,9 @@
--- Coordinates that no sum of a turn's test passes.
+-- The ranges of the numbers in a turn's test.
 use Rattle.std.specs.Prelude.{ℤ, pos, neg_ℤ, ◌^◌, ◌≤ℤ◌}
-use Rattle.book_parts.specs.Limits.{IsFrom}
+use Rattle.book_parts.specs.Limits.{IsFrom, IsCoordinate}
+use Rattle.book_parts.specs.Proper.{IsIndex}
+use Rattle.book_parts.specs.declared.turn.TurnEnd.{TurnEnd}
+use Rattle.book_parts.specs.declared.turn.TurnEnd.TheVariants.{Close, Move, Emit}
 
 -- a place with coordinates from -2^41 to 2^41
 pub record IsWithinReach (x y : ℤ) : Type 0 where
@@ -12,3 +15,9 @@ pub record IsWithinReach (x y : ℤ) : Type 0 where
 -- a delay that a turn may have
 abbrev pub IsDelay : ℤ → Type 0
 IsDelay delay = IsFrom (pos 0) (pos 65536) delay
+
+-- the numbers of what a turn leaves are within the limits of a book
+abbrev pub IsWithinLimits : TurnEnd → Type 0
+IsWithinLimits Close = Unit {0}
+IsWithinLimits (Move kind step) = IsCoordinate step
+IsWithinLimits (Emit kind step lane j) = IsCoordinate step × (IsCoordinate lane × IsIndex j)

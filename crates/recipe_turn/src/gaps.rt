@@ -1,22 +1,43 @@
 //! The gaps between a turn's gliders.
 
-ghost use Rattle.std.specs.Prelude.{◌↔◌, IsTrue, pos};
+ghost use Rattle.std.specs.Prelude.{◌<◌, MatchOption, IfOk, IfErr, pos, length};
 ghost use Rattle.std.specs.List.{AllByRecursion};
 ghost use Rattle.recipe_turn.specs.Turn.{AreSpaced};
+ghost use Rattle.recipe_turn.specs.Gaps.{AreApart, IsFirstNarrow};
+ghost use Rattle.recipe_turn.specs.Refusals.{GapsAreRefused};
 ghost use Rattle.recipe_turn.specs.Range.{IsDelay};
 
-/// Whether the delays begin at 0, each is at least 20 more than the one before, and n at least 20 more than the last.
-pub(crate) fn are_spaced(delays: &[i64], n: u32) -> bool
-    requires { AllByRecursion IsDelay delays.now }
-    ensures { IsTrue result ↔ AreSpaced delays.now (pos n) }
+use crate::refusal::TurnRefusal;
+
+// The place, counted from 1, of the first delay that isn't 0 as the first or at least 20 more than the one before.
+fn first_narrow(delays: &[i64]) -> Option<usize>
+    requires delays { AllByRecursion IsDelay delays.now }
+    requires some { 0 < length delays.now }
+    ensures { MatchOption result (AreApart delays.now) (IsFirstNarrow delays.now) }
 {
-    if delays.is_empty() || delays[0] != 0 {
-        return false;
+    if delays[0] != 0 {
+        return Some(1);
     }
     for place in 1..delays.len() {
         if delays[place] < delays[place - 1] + 20 {
-            return false;
+            return Some(place + 1);
         }
     }
-    delays[delays.len() - 1] + 20 <= i64::from(n)
+    None
+}
+
+/// Refuses delays that are too near one another, or too near the turn's last generation.
+pub(crate) fn test_gaps(delays: &[i64], n: u32) -> Result<(), TurnRefusal>
+    requires delays { AllByRecursion IsDelay delays.now }
+    requires some { 0 < length delays.now }
+    ensures spaced { IfOk result (λ _. AreSpaced delays.now (pos n)) }
+    ensures refusal { IfErr result (λ e. GapsAreRefused delays.now n e) }
+{
+    if let Some(place) = first_narrow(delays) {
+        return Err(TurnRefusal::Gap { place });
+    }
+    if i64::from(n) < delays[delays.len() - 1] + 20 {
+        return Err(TurnRefusal::Short { n });
+    }
+    Ok(())
 }

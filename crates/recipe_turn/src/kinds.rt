@@ -1,16 +1,22 @@
 //! Kinds of elbow: still lifes in their place.
 
-ghost use Rattle.std.specs.Prelude.{◌≡◌, ◌^◌, ◌↔◌, IsTrue, IfOk, MatchOption};
+ghost use Rattle.std.specs.Prelude.{◌≡◌, ◌+◌, ◌^◌, ◌≤◌, ◌↔◌, IsTrue, IfOk, IfErr, MatchOption};
 ghost use Rattle.life_plane.specs.Plane.{IsStill};
 ghost use Rattle.life_cells.specs.Cells.{alive};
 ghost use Rattle.life_cells.specs.Boxes.{IsInRange};
 ghost use Rattle.book_parts.specs.Limits.{AreProper, IsPlaced, IsCoordinate};
-ghost use Rattle.recipe_turn.specs.Kind.{AreInPlace, IsInPlace, IsFirstOutOfPlace, IsFirstChange};
+ghost use Rattle.book_parts.specs.Proper.{HasLife};
+ghost use Rattle.recipe_turn.specs.Kind.{AreInPlace, IsInPlace, IsFirstOutOfPlace, IsFirstChange, IsValidKind};
+ghost use Rattle.recipe_turn.specs.Refusals.{KindIsRefused};
 
 use crate::diagonals::{ahead_of_tail, u_of};
+use crate::refusal::KindsError;
 use book_parts::Settings;
-use life_cells::{Cell, CellSet, NoMemory, step_plain};
+use life_cells::{Cell, CellSet, NoMemory};
+use life_steps::Steps;
+use life_tiles::Tiles;
 use std::alloc::Global;
+use std::sync::ledger::Ledger;
 
 // Whether a kind may have this cell.
 fn is_in_place(settings: &Settings, cell: Cell) -> bool
@@ -36,11 +42,44 @@ pub fn first_out_of_place(settings: &Settings, cells: &CellSet) -> Option<Cell>
     None
 }
 
-/// The first cell that changes in the next generation; None exactly where the set is still.
-pub fn first_change(alloc: Global, cells: &CellSet) -> Result<Option<Cell>, NoMemory>
+/// The first cell that changes in the next generation, which is counted; None exactly where the set is still.
+pub fn first_change<L: Ledger>(
+    alloc: Global,
+    cells: &CellSet,
+    steps: &mut Steps<L>,
+) -> Result<Option<Cell>, NoMemory>
     requires { IsInRange (2 ^ 61) (alive cells.now) }
-    ensures { IfOk result (λ change. MatchOption change (IsStill (alive cells.now)) (IsFirstChange (alive cells.now))) }
+    ensures change { IfOk result (λ change. MatchOption change (IsStill (alive cells.now)) (IsFirstChange (alive cells.now))) }
+    ensures least { steps.old ≤ steps.new }
+    ensures most { steps.new ≤ steps.old + 1 }
 {
-    let next = step_plain(alloc, cells)?;
+    let mut tiles = Tiles::from_cells(alloc, cells)?;
+    tiles.step(steps)?;
+    let next = tiles.to_cells()?;
     Ok(cells.first_difference(&next))
+}
+
+/// Refuses the kind with this number where its cells are out of place or change.
+pub(crate) fn test_kind<L: Ledger>(
+    alloc: Global,
+    settings: &Settings,
+    number: usize,
+    cells: &CellSet,
+    steps: &mut Steps<L>,
+) -> Result<(), KindsError>
+    requires settings { AreProper settings.now }
+    requires placed { IsPlaced (alive cells.now) }
+    requires lives { HasLife (alive cells.now) }
+    ensures valid { IfOk result (λ _. IsValidKind settings.now (alive cells.now)) }
+    ensures refusal { IfErr result (λ e. KindIsRefused settings.now number (alive cells.now) e) }
+    ensures least { steps.old ≤ steps.new }
+    ensures most { steps.new ≤ steps.old + 1 }
+{
+    if let Some(cell) = first_out_of_place(settings, cells) {
+        return Err(KindsError::Place { kind: number, cell });
+    }
+    if let Some(cell) = first_change(alloc, cells, steps)? {
+        return Err(KindsError::NotStill { kind: number, cell });
+    }
+    Ok(())
 }

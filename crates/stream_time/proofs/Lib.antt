@@ -1,1 +1,5 @@
-mod StartRange
+-- Lemmas on streams.
+pub mod Gliding
+pub mod Numbers
+pub mod SoFar
+pub mod Whole

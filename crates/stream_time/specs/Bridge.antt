@@ -1,12 +1,12 @@
 -- A turn of a book as the composition theorem sees it.
-use Rattle.std.specs.Prelude.{◌≡◌, ◌⊎◌, Bool, true, false, ◌||◌, ℕ, zero, suc, ◌+◌, ◌*◌, ◌≤◌, ◌<◌, ℤ, pos, negsuc, neg_ℤ, ◌+ℤ◌, ◌-ℤ◌, ◌*ℤ◌, ◌≤ℤ◌, ◌<ℤ◌, List, [], ◌∷◌, map, unsigned_abs, length}
+use Rattle.std.specs.Prelude.{◌≡◌, ◌⊎◌, Bool, true, false, ◌||◌, ℕ, ◌+◌, ◌≤◌, ℤ, pos, negsuc, ◌+ℤ◌, ◌-ℤ◌, ◌*ℤ◌, ◌≤ℤ◌, ◌<ℤ◌, List, [], ◌∷◌, map, unsigned_abs}
 use Rattle.std.proofs.Common.{refl, sym, ap, subst, ◌∙◌, arith, inl, inr}
 use Rattle.std.proofs.lemmas.Int.{ints}
 use Rattle.std.specs.Int.{int_div_euclid}
-use Rattle.life_plane.specs.Plane.{Plane, nothing, union, shift, run, step, IsStill, same_plane}
+use Rattle.life_plane.specs.Plane.{Plane, nothing, union, shift, run, step, same_plane}
 use Rattle.life_plane.specs.Tracks.{stream_glider}
-use Rattle.life_plane.specs.Strips.{Each, UAtMost, VAtLeast}
-use Rattle.life_scene.specs.Stream.{coming, Spaced, Before, run_nothing}
+use Rattle.life_plane.specs.Strips.{VAtLeast}
+use Rattle.life_scene.specs.Stream.{coming, Spaced, Before}
 use Rattle.life_scene.specs.Turns as scene
 use Rattle.life_scene.specs.Turns.Throw.{Keeps, Throws}
 use Rattle.book_parts.specs.declared.settings.Settings.{Settings}
@@ -18,7 +18,7 @@ use Rattle.book_parts.specs.Limits.{AreProper, IsApproach}
 use Rattle.recipe_turn.specs.Kind.{IsValidKind}
 use Rattle.recipe_turn.specs.Turn.{IsSound, AreSpaced, AreSpacedFrom, gliders, turn_start, turn_end, IsInFront}
 use Rattle.stream_time.specs.Schedule.{Timed, step_of}
-use Rattle.stream_time.specs.Pattern.{kind_plane, next_plane}
+use Rattle.book_parts.specs.Kinds.{kind_plane, next_plane}
 
 -- half of the approach, which is a multiple of 4
 pub record Half (settings : Settings) : Type 0 where

@@ -1,7 +1,6 @@
 -- A stream of moves and a closing turn leaves nothing.
-use Rattle.std.specs.Prelude.{◌≡◌, ◌⊎◌, Bool, true, false, ◌||◌, ℕ, zero, suc, ◌+◌, ◌*◌, ◌≤◌, ◌<◌, ℤ, pos, negsuc, neg_ℤ, ◌+ℤ◌, ◌-ℤ◌, ◌*ℤ◌, ◌≤ℤ◌, ◌<ℤ◌, List, [], ◌∷◌, map, unsigned_abs, Option}
-use Rattle.std.specs.declared.option.Option.TheVariants.{Some, None}
-use Rattle.std.proofs.Common.{refl, sym, ap, subst, ◌∙◌, arith, inl, inr}
+use Rattle.std.specs.Prelude.{◌≡◌, ℕ, ◌+◌, ◌≤◌, ℤ, pos, ◌+ℤ◌, ◌-ℤ◌, ◌*ℤ◌, List, [], ◌∷◌, map, unsigned_abs}
+use Rattle.std.proofs.Common.{refl, sym, ap, subst, ◌∙◌, arith}
 use Rattle.std.proofs.lemmas.Int.{ints}
 use Rattle.life_plane.specs.Plane.{Plane, nothing, union, shift, run, same_plane}
 use Rattle.life_plane.specs.Evolve.{run_shift}
@@ -12,15 +11,15 @@ use Rattle.life_scene.specs.ElbowSide.{elbow_side, scene_at_begin, scene_after}
 use Rattle.life_cells.specs.declared.cell.Cell.{Cell}
 use Rattle.book_parts.specs.declared.settings.Settings.{Settings}
 use Rattle.book_parts.specs.declared.kind.RawKind.{RawKind}
-use Rattle.book_parts.specs.declared.turn.RawTurn.{RawTurn}
 use Rattle.book_parts.specs.declared.turn.TurnEnd.{TurnEnd}
 use Rattle.book_parts.specs.declared.turn.TurnEnd.TheVariants.{Close, Move, Emit}
 use Rattle.book_parts.specs.Limits.{AreProper}
 use Rattle.recipe_turn.specs.Kind.{IsValidKind}
-use Rattle.recipe_turn.specs.Turn.{IsSound, gliders}
-use Rattle.stream_time.specs.Schedule.{Timed, end, step_of, Past, no_past, past_after, IsValid, MayStart}
-use Rattle.stream_time.specs.Pattern.{kind_plane, next_plane, Closes, GoesOn, turn_gliders, stream, pattern, last_end}
-use Rattle.stream_time.specs.Bridge.{rules, throw_of, framed, placed, half_approach, sound_turn, valid_kind, no_kind, spaced_gliders}
+use Rattle.recipe_turn.specs.Turn.{IsSound}
+use Rattle.stream_time.specs.Schedule.{Timed, end, step_of, Past, no_past, past_after, IsValid}
+use Rattle.book_parts.specs.Kinds.{kind_plane, next_plane}
+use Rattle.stream_time.specs.Pattern.{Closes, GoesOn, turn_gliders, stream, pattern, last_end}
+use Rattle.stream_time.specs.Bridge.{rules, throw_of, placed, half_approach, sound_turn, valid_kind, no_kind, spaced_gliders}
 
 -- a turn is sound between the kinds that it names, and begins at a valid one
 pub record IsSoundHere (settings : Settings) (kinds : List RawKind) (m : Timed) : Type 0 where

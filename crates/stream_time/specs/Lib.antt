@@ -3,5 +3,11 @@ pub mod Schedule
 pub mod Pattern
 pub mod Bridge
 pub mod Closing
-pub mod OneTurn
+pub mod Timing
+pub mod Numbered
+pub mod Laying
+pub mod Built
+pub mod Steps
 pub mod Range
+pub mod Events
+pub mod EventLaws

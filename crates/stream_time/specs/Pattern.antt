@@ -1,28 +1,14 @@
 -- The pattern of a stream of turns, and the number of its generations.
-use Rattle.std.specs.Prelude.{◌≡◌, ℕ, zero, suc, ◌+◌, ◌≤◌, ℤ, pos, neg_ℤ, ◌+ℤ◌, ◌-ℤ◌, ◌*ℤ◌, List, [], ◌∷◌}
+use Rattle.std.specs.Prelude.{◌≡◌, ℕ, ℤ, pos, ◌+ℤ◌, ◌-ℤ◌, ◌*ℤ◌, List, [], ◌∷◌}
 use Rattle.life_plane.specs.Plane.{Plane, nothing, union, shift}
-use Rattle.life_cells.specs.Cells.{alive}
 use Rattle.life_cells.specs.declared.cell.Cell.{Cell}
 use Rattle.book_parts.specs.declared.settings.Settings.{Settings}
 use Rattle.book_parts.specs.declared.kind.RawKind.{RawKind}
-use Rattle.book_parts.specs.declared.turn.RawTurn.{RawTurn}
 use Rattle.book_parts.specs.declared.turn.TurnEnd.{TurnEnd}
 use Rattle.book_parts.specs.declared.turn.TurnEnd.TheVariants.{Close, Move, Emit}
+use Rattle.book_parts.specs.Kinds.{kind_plane}
 use Rattle.recipe_turn.specs.Turn.{gliders}
 use Rattle.stream_time.specs.Schedule.{Timed, end}
-
--- the cells of the kind with this number, counted from 1
-abbrev pub kind_plane : List RawKind → ℕ → Plane
-kind_plane [] k = nothing
-kind_plane (kind ∷ kinds) zero = nothing
-kind_plane (kind ∷ kinds) (suc zero) = alive kind.cells
-kind_plane (kind ∷ kinds) (suc (suc k)) = kind_plane kinds (suc k)
-
--- the kind that a turn leads to; none where it closes
-abbrev pub next_plane : List RawKind → TurnEnd → Plane
-next_plane kinds Close = nothing
-next_plane kinds (Move kind step) = kind_plane kinds kind
-next_plane kinds (Emit kind step lane j) = kind_plane kinds kind
 
 -- after a closing turn this is so; after a move the elbow's kind and shift are such; nothing is thrown
 abbrev pub GoesOn : TurnEnd → ℤ → Type 0 → (ℕ → ℤ → Type 0) → Type 0
@@ -47,10 +33,6 @@ stream settings (m ∷ ms) = union (turn_gliders settings m) (stream settings ms
 -- the start elbow and the stream, moved back to the target's place
 abbrev pub pattern : Settings → List RawKind → ℕ → List Timed → Cell → Plane
 pattern settings kinds start ms back = shift back.x back.y (union (kind_plane kinds start) (stream settings ms))
-
--- a turn that starts in generation 0 at the elbow's place
-abbrev pub at_once : RawTurn → Timed
-at_once turn = record { turn = turn; shift = pos 0; start = 0 }
 
 -- the end of the last turn
 abbrev pub last_end : List Timed → ℕ

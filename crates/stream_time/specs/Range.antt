@@ -1,58 +1,103 @@
--- How far out a pattern's cells lie.
-use Rattle.std.specs.Prelude.{◌≡◌, ◌⊎◌, true, ℕ, ◌≤◌, ◌^◌, ℤ, pos, neg_ℤ, negsuc, ◌+ℤ◌, ◌-ℤ◌, ◌*ℤ◌, ◌≤ℤ◌, List, [], ◌∷◌}
+-- How far out the cells of a stream lie.
+use Rattle.std.specs.Prelude.{◌≡◌, ◌⊎◌, true, ℕ, ◌+◌, ◌*◌, ◌≤◌, ◌^◌, ℤ, pos, neg_ℤ, ◌+ℤ◌, ◌-ℤ◌, ◌*ℤ◌, ◌≤ℤ◌, List, [], ◌∷◌, length}
 use Rattle.std.specs.List.{AllByRecursion}
-use Rattle.std.proofs.Common.{refl, sym, ap, ◌∙◌, arith, inl, inr}
+use Rattle.std.proofs.Common.{arith, inl, inr}
 use Rattle.std.proofs.lemmas.Int.{ints}
-use Rattle.life_plane.specs.Plane.{Plane, union, nothing}
+use Rattle.life_plane.specs.Plane.{Plane, union}
 use Rattle.life_plane.specs.Tracks.{stream_glider, stream_range}
 use Rattle.life_plane.specs.Strips.{either}
 use Rattle.life_cells.specs.Boxes.{IsInRange}
-use Rattle.book_parts.specs.Limits.{IsFrom, IsApproach, IsPlaced, IsCoordinate}
+use Rattle.book_parts.specs.Limits.{IsFrom, IsApproach, IsPlaced}
+use Rattle.book_parts.specs.Proper.{IsDelay, IsProperTurn}
 use Rattle.book_parts.specs.declared.settings.Settings.{Settings}
-use Rattle.recipe_turn.specs.Turn.{gliders, turn_start, AreFewDelays}
 use Rattle.book_parts.specs.declared.turn.RawTurn.{RawTurn}
+use Rattle.recipe_turn.specs.Turn.{gliders}
+use Rattle.stream_time.specs.Schedule.{step_of}
+use Rattle.stream_time.specs.Pattern.{stream}
+use Rattle.stream_time.specs.Timing.{timed, wait}
+use Rattle.stream_time.specs.Steps.{step_small, wait_small}
 
--- coordinates from -2^31 to 2^31
+-- coordinates from -2^57 to 2^57
 pub record IsNear (x y : ℤ) : Type 0 where
-  pub west : neg_ℤ (pos (2 ^ 31)) ≤ℤ x
-  pub east : x ≤ℤ pos (2 ^ 31)
-  pub north : neg_ℤ (pos (2 ^ 31)) ≤ℤ y
-  pub south : y ≤ℤ pos (2 ^ 31)
+  pub west : neg_ℤ (pos (2 ^ 57)) ≤ℤ x
+  pub east : x ≤ℤ pos (2 ^ 57)
+  pub north : neg_ℤ (pos (2 ^ 57)) ≤ℤ y
+  pub south : y ≤ℤ pos (2 ^ 57)
 
-glider_near : (settings : Settings) → IsApproach settings.approach → (d x y : ℤ) → IsFrom (pos 0) (pos 65536) d → stream_glider ((pos 0 -ℤ settings.approach) -ℤ d) x y ≡ true → IsNear x y
-glider_near settings a d x y from h =
-    let r = stream_range ((pos 0 -ℤ settings.approach) -ℤ d) x y h in
+glider_near : (settings : Settings) → IsApproach settings.approach → (time d x y : ℤ) → IsFrom (neg_ℤ (pos (2 ^ 56))) (pos (2 ^ 56)) time → IsDelay d → stream_glider ((time -ℤ settings.approach) -ℤ d) x y ≡ true → IsNear x y
+glider_near settings a time d x y when from h =
+    let r = stream_range ((time -ℤ settings.approach) -ℤ d) x y h in
     let behind = r.behind in
     let ahead = r.ahead in
     let left = r.left in
     let right = r.right in
     let low = from.low in
     let high = from.high in
+    let soon = when.low in
+    let late = when.high in
     let least = a.range.low in
     let greatest = a.range.high in
     record { west = omega (arith, ints); east = omega (arith, ints); north = omega (arith, ints); south = omega (arith, ints) }
 
-gliders_near : (settings : Settings) → IsApproach settings.approach → (ds : List ℤ) → AllByRecursion (λ d. IsFrom (pos 0) (pos 65536) d) ds → (x y : ℤ) → gliders settings ds (pos 0) x y ≡ true → IsNear x y
-gliders_near settings a [] all x y h = cc
-gliders_near settings a (d ∷ ds) all x y h =
-    by_part (gliders_near settings a ds all.1 x y) (either _ _ h)
+gliders_near : (settings : Settings) → IsApproach settings.approach → (ds : List ℤ) (time : ℤ) → IsFrom (neg_ℤ (pos (2 ^ 56))) (pos (2 ^ 56)) time → AllByRecursion IsDelay ds → (x y : ℤ) → gliders settings ds time x y ≡ true → IsNear x y
+gliders_near settings a [] time when all x y h = cc
+gliders_near settings a (d ∷ ds) time when all x y h =
+    by_part (gliders_near settings a ds time when all.1 x y) (either _ _ h)
   where
-    by_part : (gliders settings ds (pos 0) x y ≡ true → IsNear x y) → (stream_glider ((pos 0 -ℤ settings.approach) -ℤ d) x y ≡ true) ⊎ (gliders settings ds (pos 0) x y ≡ true) → IsNear x y
-    by_part rest (inl p) = glider_near settings a d x y all.0 p
+    by_part : (gliders settings ds time x y ≡ true → IsNear x y) → (stream_glider ((time -ℤ settings.approach) -ℤ d) x y ≡ true) ⊎ (gliders settings ds time x y ≡ true) → IsNear x y
+    by_part rest (inl p) = glider_near settings a time d x y when all.0 p
     by_part rest (inr p) = rest p
 
-placed_near : (s : Plane) → IsPlaced s → (x y : ℤ) → s x y ≡ true → IsNear x y
+-- the elbow's shift and the start after so many turns
+pub record IsEarlyAt (turns : ℕ) (shift : ℤ) (start : ℕ) : Type 0 where
+  pub west : neg_ℤ (pos (turns * 2 ^ 30)) ≤ℤ shift
+  pub east : shift ≤ℤ pos (turns * 2 ^ 30)
+  pub late : start ≤ turns * 2 ^ 33
+
+pub early_more : (kinds turns : ℕ) (shift : ℤ) (start : ℕ) (turn : RawTurn) → IsProperTurn kinds turn → IsEarlyAt turns shift start → IsEarlyAt (turns + 1) (shift +ℤ step_of turn.end) ((start + turn.n) + wait turn.end)
+early_more kinds turns shift start turn proper e =
+    let step = step_small kinds turn.end proper.leaves in
+    let low = step.low in
+    let high = step.high in
+    let short = proper.short in
+    let waits = wait_small (step_of turn.end) high in
+    let west = e.west in
+    let east = e.east in
+    let late = e.late in
+    record { west = omega (arith, ints); east = omega (arith, ints); late = omega arith }
+
+-- the time of a turn's gliders
+time_near : (turns : ℕ) (shift : ℤ) (start : ℕ) → turns ≤ 2 ^ 22 → IsEarlyAt turns shift start → IsFrom (neg_ℤ (pos (2 ^ 56))) (pos (2 ^ 56)) (pos 4 *ℤ shift -ℤ pos start)
+time_near turns shift start few e =
+    let west = e.west in
+    let east = e.east in
+    let late = e.late in
+    record { low = omega (arith, ints); high = omega (arith, ints) }
+
+-- the gliders of a list of turns, after so many
+pub stream_near : (settings : Settings) → IsApproach settings.approach → (kinds : ℕ) (turns : List RawTurn) → AllByRecursion (IsProperTurn kinds) turns → (before : ℕ) (shift : ℤ) (start : ℕ) → before + length turns ≤ 2 ^ 22 → IsEarlyAt before shift start →
+    (x y : ℤ) → stream settings (timed turns shift start) x y ≡ true → IsNear x y
+stream_near settings a kinds [] all before shift start few e x y h = cc
+stream_near settings a kinds (turn ∷ turns) all before shift start few e x y h =
+    by_part (stream_near settings a kinds turns all.1 (before + 1) (shift +ℤ step_of turn.end) ((start + turn.n) + wait turn.end) (omega arith) (early_more kinds before shift start turn all.0 e) x y) (either _ _ h)
+  where
+    by_part : (stream settings (timed turns (shift +ℤ step_of turn.end) ((start + turn.n) + wait turn.end)) x y ≡ true → IsNear x y) →
+        (gliders settings turn.delays (pos 4 *ℤ shift -ℤ pos start) x y ≡ true) ⊎ (stream settings (timed turns (shift +ℤ step_of turn.end) ((start + turn.n) + wait turn.end)) x y ≡ true) → IsNear x y
+    by_part rest (inl p) = gliders_near settings a turn.delays (pos 4 *ℤ shift -ℤ pos start) (time_near before shift start (omega arith) e) all.0.delays x y p
+    by_part rest (inr p) = rest p
+
+pub placed_near : (s : Plane) → IsPlaced s → (x y : ℤ) → s x y ≡ true → IsNear x y
 placed_near s p x y h =
     let xl = (p.x x y h).low in let xh = (p.x x y h).high in let yl = (p.y x y h).low in let yh = (p.y x y h).high in
     record { west = omega (arith, ints); east = omega (arith, ints); north = omega (arith, ints); south = omega (arith, ints) }
 
--- a turn begins within 2^31
-pub turn_start_near : (settings : Settings) (kind : Plane) (turn : RawTurn) → IsApproach settings.approach → IsPlaced kind → AreFewDelays turn → (x y : ℤ) → turn_start settings kind turn x y ≡ true → IsNear x y
-turn_start_near settings kind turn a p d x y h = by_part (either _ _ h)
+-- both together
+pub both_near : (s t : Plane) → ((x y : ℤ) → s x y ≡ true → IsNear x y) → ((x y : ℤ) → t x y ≡ true → IsNear x y) → (x y : ℤ) → union s t x y ≡ true → IsNear x y
+both_near s t p q x y h = by_part (either _ _ h)
   where
-    by_part : (kind x y ≡ true) ⊎ (gliders settings turn.delays (pos 0) x y ≡ true) → IsNear x y
-    by_part (inl q) = placed_near kind p x y q
-    by_part (inr q) = gliders_near settings a turn.delays d.range x y q
+    by_part : (s x y ≡ true) ⊎ (t x y ≡ true) → IsNear x y
+    by_part (inl a) = p x y a
+    by_part (inr a) = q x y a
 
 pub near_in_range : (s : Plane) → ((x y : ℤ) → s x y ≡ true → IsNear x y) → IsInRange (2 ^ 58) s
 near_in_range s near = record {

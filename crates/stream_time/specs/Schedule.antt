@@ -1,10 +1,7 @@
 -- When the turns of a stream may start, and when they do.
-use Rattle.std.specs.Prelude.{◌≡◌, ℕ, ◌+◌, ◌≤◌, ℤ, pos, ◌+ℤ◌, ◌-ℤ◌, ◌*ℤ◌, ◌≤ℤ◌, List, [], ◌∷◌, Option}
+use Rattle.std.specs.Prelude.{ℕ, ◌+◌, ◌≤◌, ℤ, pos, ◌+ℤ◌, ◌-ℤ◌, ◌*ℤ◌, ◌≤ℤ◌, List, [], ◌∷◌, Option}
 use Rattle.std.specs.declared.option.Option.TheVariants.{Some, None}
-use Rattle.life_plane.specs.Plane.{Plane, nothing}
-use Rattle.life_cells.specs.Cells.{Cells, alive}
 use Rattle.book_parts.specs.declared.settings.Settings.{Settings}
-use Rattle.book_parts.specs.declared.kind.RawKind.{RawKind}
 use Rattle.book_parts.specs.declared.turn.RawTurn.{RawTurn}
 use Rattle.book_parts.specs.declared.turn.TurnEnd.{TurnEnd}
 use Rattle.book_parts.specs.declared.turn.TurnEnd.TheVariants.{Close, Move, Emit}

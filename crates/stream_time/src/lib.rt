@@ -2,8 +2,10 @@
 //! law that a stream which closes its elbow leaves nothing. Times are generations; x goes right and y goes down.
 #![tactic(auto)]
 
+pub mod building;
 pub mod laws;
-pub mod pattern;
+pub mod laying;
+pub mod layout;
 
+pub use building::{Built, PlanError, compile};
 pub use laws::closing_streams_vanish;
-pub use pattern::one_turn_pattern;

@@ -1,5 +1,5 @@
 use Rattle.std.proofs.lemmas.Result.{err_from_is_err_and}
-use Rattle.life_rle.proofs.SoFar.{so_far_start, so_far_push, stops_at_fault, column_fits, whole_means, whole_range, whole_quadrant, whole_few}
+use Rattle.life_rle.proofs.SoFar.{so_far_start, so_far_push, stops_at_fault, column_fits, origin_in_reach, first_in_reach, whole_means, whole_range, whole_quadrant, whole_few}
 use Rattle.life_rle.proofs.body.read_body.Goals as goal
 
 pub loop-cells-init : goal.loop-cells-init
@@ -10,16 +10,23 @@ returns-in_err-front-clause-refusal c =
     let p = err_from_is_err_and c.from_residual.result c.from_residual.ensures.1 in
     rw (p.1, p.2) (stops_at_fault c.args.word.now c.loop-cells.rest.now c.loop-cells.cursor c.loop-cells.cells.items _ c.loop-cells.invariant c.in_err-front.ensures.err)
 
-pub add_cells-requires-clause-column : goal.add_cells-requires-clause-column
-add_cells-requires-clause-column c = λ alive.
+pub from_place-requires-clause-place : goal.from_place-requires-clause-place
+from_place-requires-clause-place c = rw c.new-origin.ensures origin_in_reach
+
+pub add_cells-requires-clause-first : goal.add_cells-requires-clause-first
+add_cells-requires-clause-first c = first_in_reach c.loop-cells.cursor _ c.loop-cells.invariant.within (rw c.new-origin.ensures at c.from_place.ensures)
+
+pub add_cells-requires-clause-last : goal.add_cells-requires-clause-last
+add_cells-requires-clause-last c = λ alive.
     let so_far = c.loop-cells.invariant in
-    column_fits so_far.items c.in-Some.front.item c.loop-cells.cursor c.behind-next.result alive so_far.behind (c.behind-next.ensures so_far.items so_far.behind) c.in_ok-check.ensures.ok
+    column_fits so_far.items c.in-Some.front.item c.loop-cells.cursor c.behind-next.result _ alive so_far.behind (c.behind-next.ensures so_far.items so_far.behind) c.in_ok-check.ensures.ok
+    (rw c.new-origin.ensures at c.from_place.ensures)
 
 pub loop-cells-preserved : goal.loop-cells-preserved
 loop-cells-preserved c =
     let next = rw c.in-Some.is at c.in_ok-front.ensures.item in
     rw c.in_ok-add_cells.ensures
-    (so_far_push c.args.word.now c.loop-cells.rest.now c.loop-cells.cursor c.behind-next.result c.loop-cells.cells.items c.in-Some.front.item next.0 c.in-Some.front.more.now c.loop-cells.invariant next.1.0 c.behind-next.ensures c.in_ok-check.ensures.ok)
+    (so_far_push c.args.word.now c.loop-cells.rest.now c.loop-cells.cursor c.behind-next.result c.loop-cells.cells.items c.in-Some.front.item next.0 c.in-Some.front.more.now c.loop-cells.invariant next.1.0 c.behind-next.ensures _ (rw c.new-origin.ensures at c.from_place.ensures) c.in_ok-check.ensures.ok)
 
 pub returns-clause-cells : goal.returns-clause-cells
 returns-clause-cells c =

@@ -1,0 +1,11 @@
+use Rattle.std.proofs.Common.{sym, ◌+◌}
+use Rattle.life_rle.specs.Text.{is_blank_byte}
+use Rattle.life_rle.proofs.Firsts.{none_passes}
+use Rattle.life_rle.proofs.Placing.{word_at, slice_rest}
+use Rattle.life_rle.proofs.place.split_word.Goals as goal
+
+pub returns-in-Some-clause-some : goal.returns-in-Some-clause-some
+returns-in-Some-clause-some c = rw (slice_rest c.args.line.now (c.in-Some.at + 1)) (word_at c.args.line.now c.in-Some.at (sym c.in-Some.ensures))
+
+pub returns-in-None-clause-none : goal.returns-in-None-clause-none
+returns-in-None-clause-none c = none_passes is_blank_byte c.args.line.now (sym c.in-None.ensures)

@@ -1,0 +1,118 @@
+//! What stands before the items of a text: lines that are passed over, and the header.
+
+ghost use Rattle.std.specs.Prelude.{◌≡◌, ◌<◌, length, IfOk, IfErr};
+ghost use Rattle.life_rle.specs.Lines.{first_line, behind};
+ghost use Rattle.life_rle.specs.Text.{IsPassedOver};
+ghost use Rattle.life_rle.specs.Reach.{IsInReach};
+ghost use Rattle.life_rle.specs.TextFaults.{HasBody, StartStopsWith};
+ghost use Rattle.life_rle.specs.Readers.{IsOpened, Gives, PlaceIsRefused};
+
+use crate::error::RleError;
+use crate::front::offset;
+use crate::header::is_plain_header;
+use crate::passed::{gives_place, is_passed_over, split_line};
+use crate::place::place_in;
+use crate::reach::is_in_reach;
+use life_cells::Cell;
+
+/// A line that may give the place, and where it begins.
+#[derive(Clone, Copy)]
+pub struct PlaceLine<'a> {
+    /// The line.
+    pub line: &'a [u8],
+    /// The place of its first byte in the text.
+    pub at: u64,
+}
+
+/// What stands before the header.
+#[derive(Clone, Copy)]
+struct Opening<'a> {
+    /// The first line that may give the place.
+    place_line: Option<PlaceLine<'a>>,
+    /// The text from the header's line on.
+    rest: &'a [u8],
+}
+
+/// Where the items begin.
+#[derive(Clone, Copy)]
+pub struct Start<'a> {
+    /// The place of the first item.
+    pub place: Cell,
+    /// What stands behind the header's line.
+    pub body: &'a [u8],
+}
+
+/// The first line that may give the place, of one line more.
+fn found_with<'a>(
+    text: &[u8],
+    rest: &[u8],
+    line: &'a [u8],
+    before: Option<PlaceLine<'a>>,
+) -> Option<PlaceLine<'a>>
+    requires opened { IsOpened text.now rest.now before }
+    requires some { 0 < length rest.now }
+    requires line { line.now ≡ first_line rest.now }
+    requires passed { IsPassedOver line.now }
+    ensures { IsOpened text.now (behind rest.now) result }
+{
+    if before.is_none() && gives_place(line) {
+        let at = offset(text, rest);
+        Some(PlaceLine { line, at })
+    } else {
+        before
+    }
+}
+
+/// The lines that are passed over at a text's front.
+fn skip_passed_over(text: &[u8]) -> Opening<'_>
+    ensures opened { IsOpened text.now result.rest.now result.place_line }
+    ensures stopped { 0 < length result.rest.now → ¬ IsPassedOver (first_line result.rest.now) }
+{
+    let mut rest = text;
+    let mut place_line = None;
+    while !rest.is_empty() {
+        let (line, more) = split_line(rest);
+        if !is_passed_over(line) {
+            return Opening { place_line, rest };
+        }
+        place_line = found_with(text, rest, line, place_line);
+        rest = more;
+    }
+    Opening { place_line, rest }
+}
+
+/// The place that a line gives, if it is in reach; without a line it is (0,0).
+fn read_place(found: Option<PlaceLine>) -> Result<Cell, RleError>
+    ensures place { IfOk result (λ place. Gives found.entry place) }
+    ensures near { IfOk result (λ place. IsInReach place) }
+    ensures far { IfErr result (λ e. PlaceIsRefused found.entry e) }
+{
+    let Some(found) = found else {
+        return Ok(Cell::new(0, 0));
+    };
+    let place = place_in(found.line);
+    if is_in_reach(place) {
+        Ok(place)
+    } else {
+        Err(RleError::TooFar { at: found.at })
+    }
+}
+
+/// Reads the lines that are passed over, and the header.
+pub fn read_start(text: &[u8]) -> Result<Start<'_>, RleError>
+    ensures body { IfOk result (λ start. HasBody text.now start.place start.body.now) }
+    ensures near { IfOk result (λ start. IsInReach start.place) }
+    ensures refusal { IfErr result (λ e. StartStopsWith text.now e) }
+{
+    let opening = skip_passed_over(text);
+    if opening.rest.is_empty() {
+        return Err(RleError::NoHeader);
+    }
+    let (line, body) = split_line(opening.rest);
+    if !is_plain_header(line) {
+        let at = offset(text, opening.rest);
+        return Err(RleError::NotYet { at });
+    }
+    let place = read_place(opening.place_line)?;
+    Ok(Start { place, body })
+}

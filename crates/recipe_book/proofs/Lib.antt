@@ -1,0 +1,4 @@
+-- Lemmas on checked books.
+pub mod SoFar
+pub mod Refusing
+pub mod OneList

@@ -1,0 +1,5 @@
+use Rattle.recipe_book.proofs.OneList.{one_list}
+use Rattle.recipe_book.proofs.laws.sound_turns_are_one.Goals as goal
+
+pub returns : goal.returns
+returns c = one_list

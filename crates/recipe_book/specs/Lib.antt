@@ -1,0 +1,5 @@
+-- What is known of a book that was checked, and why a book is refused.
+pub mod Entries
+pub mod Accepting
+pub mod Checked
+pub mod Refusals

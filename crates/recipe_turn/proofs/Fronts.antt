@@ -1,0 +1,52 @@
+-- The least u of a thrown glider.
+use Rattle.std.proofs.Common.{◌≡◌, ℕ, ◌/◌, ◌≤◌, ℤ, pos, negsuc, ◌+ℤ◌, ◌*ℤ◌, ◌≤ℤ◌, ◌<ℤ◌, sym, subst, ◌∙◌, arith, w64, to_z, of_z}
+use Rattle.std.specs.Int.{int_div_euclid}
+use Rattle.std.proofs.lemmas.Int.{ints}
+use Rattle.book_parts.specs.Limits.{IsCoordinate}
+use Rattle.book_parts.specs.Proper.{IsIndex}
+use Rattle.book_parts.specs.declared.settings.Settings.{Settings}
+use Rattle.book_parts.specs.declared.turn.TurnEnd.{TurnEnd}
+use Rattle.book_parts.specs.declared.turn.TurnEnd.TheVariants.{Emit}
+use Rattle.recipe_turn.specs.Turn.{IsInFront}
+use Rattle.recipe_turn.specs.Range.{IsWithinLimits}
+use Rattle.recipe_turn.specs.Refusals.{FrontIsRefused}
+use Rattle.recipe_turn.specs.declared.refusal.TurnRefusal.TheVariants.{Wall}
+
+-- an index has no more quarters than it has units
+pub quarters_within : (j : ℤ) → IsIndex j → IsIndex (int_div_euclid j (pos 4))
+quarters_within (pos a) h =
+    let high = h.high in
+    let less : a / 4 ≤ a = omega arith in
+    record { low = omega (arith, ints); high = omega (arith, ints) }
+quarters_within (negsuc a) h =
+    let low = h.low in
+    let less : a / 4 ≤ a = omega arith in
+    record { low = omega (arith, ints); high = omega (arith, ints) }
+
+-- the least u, from numbers that were read
+least_read : (lane j u lane_read j_read : ℤ) → lane_read ≡ lane → j_read ≡ j → u ≡ (lane_read +ℤ pos 2 *ℤ int_div_euclid j_read (pos 4)) +ℤ pos 1 →
+    u ≡ (lane +ℤ pos 2 *ℤ int_div_euclid j (pos 4)) +ℤ pos 1
+least_read lane j u lane_read j_read same_lane same_j is = is ∙ (λ i. (same_lane i +ℤ pos 2 *ℤ int_div_euclid (same_j i) (pos 4)) +ℤ pos 1)
+
+pub front_fails : (settings : Settings) (stated : TurnEnd) (kind : ℕ) (step lane j u u_read lane_read j_read : ℤ) → stated ≡ Emit kind step lane j → lane_read ≡ lane → j_read ≡ j → u_read ≡ u →
+    u ≡ (lane_read +ℤ pos 2 *ℤ int_div_euclid j_read (pos 4)) +ℤ pos 1 → u <ℤ (settings.wall +ℤ pos 5) → FrontIsRefused settings stated (Wall u_read)
+front_fails settings stated kind step lane j u u_read lane_read j_read is same_lane same_j same_u least short =
+    let here = least_read lane j u lane_read j_read same_lane same_j least in
+    subst (λ e. FrontIsRefused settings e (Wall u_read)) (sym is) (same_u ∙ here, λ far. omega (arith, ints, far, here, short))
+
+pub front_holds : (settings : Settings) (stated : TurnEnd) (kind : ℕ) (step lane j u lane_read j_read : ℤ) → stated ≡ Emit kind step lane j → lane_read ≡ lane → j_read ≡ j →
+    u ≡ (lane_read +ℤ pos 2 *ℤ int_div_euclid j_read (pos 4)) +ℤ pos 1 → (settings.wall +ℤ pos 5) ≤ℤ u → IsInFront settings stated
+front_holds settings stated kind step lane j u lane_read j_read is same_lane same_j least far =
+    let here = least_read lane j u lane_read j_read same_lane same_j least in
+    subst (IsInFront settings) (sym is) (omega (arith, ints, far, here))
+
+-- a number of a book that is read is what it was
+pub coordinate_read : (z : ℤ) → IsCoordinate z → to_z w64 (of_z w64 z) ≡ z
+coordinate_read z h = let low = h.low in let high = h.high in omega (arith, ints)
+
+pub index_read : (z : ℤ) → IsIndex z → to_z w64 (of_z w64 z) ≡ z
+index_read z h = let low = h.low in let high = h.high in omega (arith, ints)
+
+-- the numbers of a throw
+pub throw_limits : (stated : TurnEnd) (kind : ℕ) (step lane j : ℤ) → stated ≡ Emit kind step lane j → IsWithinLimits stated → IsCoordinate step × (IsCoordinate lane × IsIndex j)
+throw_limits stated kind step lane j is h = subst IsWithinLimits is h

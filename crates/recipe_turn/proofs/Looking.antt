@@ -1,0 +1,66 @@
+-- What looking at one more generation adds to what is known of a bound.
+use Rattle.std.proofs.Common.{◌≡◌, ℕ, ◌+◌, ◌^◌, true, ℤ, pos, neg_ℤ, ◌+ℤ◌, ◌*ℤ◌, ◌≤ℤ◌, List, Option, Some, None, below_more, sym, ap, subst, ◌∙◌, arith}
+use Rattle.std.proofs.lemmas.Int.{ints}
+use Rattle.life_plane.specs.Plane.{Plane, run}
+use Rattle.life_cells.specs.declared.bounds.Bounds.{Bounds}
+use Rattle.life_cells.specs.Boxes.{IsInRange, InBox, IsWithin, IsLeastBox}
+use Rattle.life_cells.specs.Cells.{Cells, alive, empty}
+use Rattle.life_cells.specs.Laws.{alive-empty}
+use Rattle.book_parts.specs.declared.settings.Settings.{Settings}
+use Rattle.recipe_turn.specs.Range.{IsWithinReach}
+use Rattle.recipe_turn.specs.Turn.{IsInReach, IsAheadOrOwn}
+use Rattle.recipe_turn.specs.Breaches.{AllKeep, KeepsReach, IsKnown, AreKnown}
+use Rattle.recipe_turn.specs.declared.breaches.Breach.{Breach}
+use Rattle.recipe_turn.specs.declared.breaches.Breaches.{Breaches}
+use Rattle.recipe_turn.proofs.Comparisons.{true≢false}
+
+-- a generation that keeps the bound
+pub known_kept : (Keeps : ℕ → ℤ → ℤ → Type 0) (start s : Plane) (t : ℕ) (found : Option Breach) → s ≡ run t start → AllKeep (Keeps t) s → IsKnown Keeps start t found →
+    IsKnown Keeps start (t + 1) found
+known_kept Keeps start s t None same keeps known = below_more (λ k. AllKeep (Keeps k) (run k start)) t known (subst (AllKeep (Keeps t)) same keeps)
+known_kept Keeps start s t (Some breach) same keeps known = (let lt = known.0 in omega arith, known.1)
+
+-- both bounds are kept
+pub both_kept : (settings : Settings) (delays : List ℤ) (start s : Plane) (t : ℕ) (breaches : Breaches) → s ≡ run t start → AllKeep (IsInReach settings) s →
+    AllKeep (IsAheadOrOwn settings delays t) s → AreKnown settings delays start t breaches → AreKnown settings delays start (t + 1) breaches
+both_kept settings delays start s t breaches same reach tail known = record {
+  reach = known_kept (KeepsReach settings) start s t breaches.reach same reach known.reach;
+  tail = known_kept (IsAheadOrOwn settings delays) start s t breaches.tail same tail known.tail;
+}
+
+-- with no cell
+pub none_keeps : (settings : Settings) (delays : List ℤ) (start : Plane) (s : Cells) (t : ℕ) (breaches : Breaches) → s ≡ empty → alive s ≡ run t start →
+    AreKnown settings delays start t breaches → AreKnown settings delays start (t + 1) breaches
+none_keeps settings delays start s t breaches none same =
+    let dead : (x y : ℤ) → alive s x y ≡ true → ⊥ = λ x y live. true≢false (sym live ∙ ap (λ (p : Plane). p x y) (ap alive none ∙ alive-empty)) in
+    both_kept settings delays start (alive s) t breaches same (λ x y live. absurd (dead x y live)) (λ x y live. absurd (dead x y live))
+
+-- with all cells in a box that is clear
+pub clear_keeps : (settings : Settings) (delays : List ℤ) (start s : Plane) (t : ℕ) (breaches : Breaches) (box : Bounds) → IsLeastBox box s →
+    ((x y : ℤ) → InBox box x y → IsInReach settings x y) → ((x y : ℤ) → InBox box x y → pos 2 ≤ℤ (pos 2 *ℤ (x +ℤ y) +ℤ settings.approach)) → s ≡ run t start →
+    AreKnown settings delays start t breaches → AreKnown settings delays start (t + 1) breaches
+clear_keeps settings delays start s t breaches box least near ahead same =
+    both_kept settings delays start s t breaches same (λ x y live. near x y (least.holds.each x y live))
+    (λ x y live. record { own = λ behind. let far = ahead x y (least.holds.each x y live) in absurd (omega (arith, ints, behind, far)) })
+
+-- ---- the corners of the least box of a set in range
+
+box_in : (box : Bounds) (s : Plane) → IsInRange (2 ^ 41) s → IsLeastBox box s → IsWithin box (record { left = neg_ℤ (pos (2 ^ 41)); top = neg_ℤ (pos (2 ^ 41)); right = pos (2 ^ 41); bottom = pos (2 ^ 41) })
+box_in box s range least =
+    least.least _ (record { each = λ x y h. record { right_of_left = range.x_low x y h; below_top = range.y_low x y h; left_of_right = range.x_high x y h; above_bottom = range.y_high x y h } })
+
+pub left_within : (box : Bounds) (s : Plane) → IsInRange (2 ^ 41) s → IsLeastBox box s → IsWithinReach box.left box.top
+left_within box s range least =
+    let within = box_in box s range least in
+    let live = least.lives.1.1 in
+    let here = least.holds.each least.lives.0 least.lives.1.0 live in
+    let x_high = range.x_high _ _ live in let y_high = range.y_high _ _ live in
+    record { left = within.left; right = omega (arith, ints); above = within.top; below = omega (arith, ints) }
+
+pub right_within : (box : Bounds) (s : Plane) → IsInRange (2 ^ 41) s → IsLeastBox box s → IsWithinReach box.right box.top
+right_within box s range least =
+    let within = box_in box s range least in
+    let live = least.lives.1.1 in
+    let here = least.holds.each least.lives.0 least.lives.1.0 live in
+    let x_low = range.x_low _ _ live in let y_high = range.y_high _ _ live in
+    record { left = omega (arith, ints); right = within.right; above = within.top; below = omega (arith, ints) }

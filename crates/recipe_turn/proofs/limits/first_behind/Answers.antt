@@ -1,0 +1,33 @@
+use Rattle.std.proofs.Common.{◌∙◌, length, sym, ap, arith}
+use Rattle.life_plane.specs.Plane.{Plane}
+use Rattle.life_cells.specs.declared.cell.Cell.{Cell}
+use Rattle.life_cells.specs.Cells.{in_order, alive}
+use Rattle.life_cells.specs.Laws.{alive-in_order, rising-in_order}
+use Rattle.recipe_turn.specs.Turn.{IsAheadOrOwn}
+use Rattle.recipe_turn.proofs.Places.{live_at, at_place, each_more, each_live}
+use Rattle.recipe_turn.proofs.Comparisons.{true≢false}
+use Rattle.recipe_turn.proofs.Ranges.{live_within}
+use Rattle.recipe_turn.proofs.First.{first_place}
+use Rattle.recipe_turn.proofs.limits.first_behind.Goals as goal
+
+pub is_ahead_or_own-requires-clause-cell : goal.is_ahead_or_own-requires-clause-cell
+is_ahead_or_own-requires-clause-cell c =
+    live_within (alive c.args.cells.now) c.requires.range _ _ (live_at c.args.cells.now _ c.cells-cell-items.ensures.order c.loop-cell.cell-index _ c.loop-cell-test.true)
+
+pub returns-then-not-is_ahead_or_own : goal.returns-then-not-is_ahead_or_own
+returns-then-not-is_ahead_or_own c =
+    let s = c.args.cells.now in
+    record {
+      is = (live_at s _ c.cells-cell-items.ensures.order c.loop-cell.cell-index _ c.loop-cell-test.true, λ p. true≢false (sym (c.is_ahead_or_own.ensures.1 p) ∙ c.if-not-is_ahead_or_own.true));
+      none_before = λ x y p. first_place (in_order s) (rising-in_order s) (λ x y. IsAheadOrOwn c.args.settings.now c.args.delays.now c.args.t x y → ⊥) c.loop-cell.cell-index _
+          (at_place s _ c.cells-cell-items.ensures.order c.loop-cell.cell-index _ c.loop-cell-test.true)
+          (λ k d lt at out. out (c.loop-cell.invariant k d lt at)) x y (sym (ap (λ (q : Plane). q x y) (alive-in_order s)) ∙ p.0) p.1;
+    }
+
+pub loop-cell-preserved : goal.loop-cell-preserved
+loop-cell-preserved c =
+    each_more _ (λ (d : Cell). IsAheadOrOwn c.args.settings.now c.args.delays.now c.args.t d.x d.y) c.loop-cell.cell-index _
+    (at_place c.args.cells.now _ c.cells-cell-items.ensures.order c.loop-cell.cell-index _ c.loop-cell-test.true) c.loop-cell.invariant (c.is_ahead_or_own.ensures.0 c.if-not-is_ahead_or_own.false)
+
+pub returns : goal.returns
+returns c = each_live c.args.cells.now (IsAheadOrOwn c.args.settings.now c.args.delays.now c.args.t) c.loop-cell.cell-index (omega (arith, ap length c.cells-cell-items.ensures.order)) c.loop-cell.invariant

@@ -1,0 +1,10 @@
+use Rattle.std.proofs.Common.{List}
+use Rattle.book_parts.specs.declared.turn.RawTurn.{RawTurn}
+use Rattle.recipe_turn.specs.Elbows.{raws}
+use Rattle.stream_time.specs.Numbered.{AreNumbered}
+use Rattle.stream_time.proofs.SoFar.{IsLaidSoFar}
+use Rattle.stream_time.proofs.laying.lay_out.Given as goal
+
+abbrev pub invariant-loop-number : goal.invariant-loop-number
+invariant-loop-number l =
+    (whole : List RawTurn) × (AreNumbered (raws l.turns) l.route whole × IsLaidSoFar l.settings (raws l.turns) l.route whole l.number-index l.layout)

@@ -1,0 +1,137 @@
+-- Turns and hits in time, for any list of them: when each turn may start, the pattern, and the number of its generations.
+use Rattle.std.specs.Prelude.{◌≡◌, ◌⊎◌, ℕ, ◌+◌, ◌≤◌, ℤ, pos, neg_ℤ, ◌+ℤ◌, ◌-ℤ◌, ◌*ℤ◌, ◌≤ℤ◌, List, [], ◌∷◌, Option, Bool, true, false, if◌then◌else◌}
+use Rattle.std.specs.List.{AllByRecursion}
+use Rattle.std.specs.declared.option.Option.TheVariants.{Some, None}
+use Rattle.std.proofs.Common.{inl, inr}
+use Rattle.life_plane.specs.Plane.{Plane, nothing, union, shift}
+use Rattle.life_cells.specs.declared.cell.Cell.{Cell}
+use Rattle.life_cells.specs.declared.bounds.Bounds.{Bounds}
+use Rattle.book_parts.specs.declared.settings.Settings.{Settings}
+use Rattle.book_parts.specs.declared.kind.RawKind.{RawKind}
+use Rattle.book_parts.specs.declared.frame.HitFrame.{HitFrame}
+use Rattle.book_parts.specs.declared.turn.TurnEnd.{TurnEnd}
+use Rattle.book_parts.specs.declared.turn.TurnEnd.TheVariants.{Close, Move, Emit}
+use Rattle.book_parts.specs.Kinds.{kind_plane}
+use Rattle.stream_time.specs.Schedule.{Timed, end, Thrown, Past, no_past, past_after, MayStart}
+use Rattle.stream_time.specs.Pattern.{turn_gliders}
+
+-- a hit at the hand, moved to the hand's place: its lane, the quarter of its glider's index at which it begins, its bounds, and how long it lasts
+pub record Struck : Type 0 where
+  pub frame : HitFrame
+  pub generations : ℕ
+
+-- what happens, in order: each hit is that of the glider thrown last
+pub data Event : Type 0 where
+  Turn : Timed → Event
+  Hit : Struck → Event
+
+-- a hit that has been: its end, and its bounds
+pub record HasBeen : Type 0 where
+  pub ended : ℤ
+  pub bounds : Bounds
+
+-- what has been: the turn before, the last throw, and all hits
+pub record History : Type 0 where
+  pub past : Past
+  pub hits : List HasBeen
+
+abbrev pub no_history : History
+no_history = record { past = no_past; hits = [] }
+
+-- a hit begins when its glider has the index at which it begins
+abbrev pub hit_end : Thrown → Struck → ℤ
+hit_end g h = ((pos g.time +ℤ pos 4 *ℤ h.frame.start) -ℤ g.j) +ℤ pos h.generations
+
+-- the hit of the last throw has been
+abbrev pub hits_with : Option Thrown → Struck → List HasBeen → List HasBeen
+hits_with None h hits = hits
+hits_with (Some g) h hits = record { ended = hit_end g h; bounds = h.frame.bounds } ∷ hits
+
+abbrev pub history_after : History → Event → History
+history_after past (Turn m) = record { past = past_after past.past m; hits = past.hits }
+history_after past (Hit h) = record { past = past.past; hits = hits_with past.past.throw h past.hits }
+
+-- a glider of a lane is at distance 3 or more from a hit's bounds up to index 4 Q + 3, for these two Q
+pub record IsNotYetAt (bounds : Bounds) (lane index : ℤ) : Type 0 where
+  pub near : (index ≤ℤ (pos 4 *ℤ ((bounds.left -ℤ pos 6) -ℤ lane) +ℤ pos 3)) ⊎ (index ≤ℤ (pos 4 *ℤ ((neg_ℤ bounds.bottom) -ℤ pos 6) +ℤ pos 3))
+
+-- a thrown glider leaves a hit in peace: the hit is over when it is thrown, or the glider is not yet there when the hit ends
+abbrev pub SparesHit : Timed → ℤ → ℤ → HasBeen → Type 0
+SparesHit m lane j hit = (hit.ended ≤ℤ pos (end m)) ⊎ IsNotYetAt hit.bounds lane ((j +ℤ hit.ended) -ℤ pos (end m))
+
+-- what a turn throws, if it throws, spares all hits that have been
+abbrev pub SparesHits : TurnEnd → Timed → List HasBeen → Type 0
+SparesHits Close m hits = Unit {0}
+SparesHits (Move kind step) m hits = Unit {0}
+SparesHits (Emit kind step lane j) m hits = AllByRecursion (SparesHit m (lane +ℤ pos 2 *ℤ m.shift) (j -ℤ pos 4 *ℤ m.shift)) hits
+
+-- a turn may start as it is timed
+pub record MayHappen (settings : Settings) (past : History) (m : Timed) : Type 0 where
+  pub start : MayStart settings past.past m.start
+  pub spares : SparesHits m.turn.end m past.hits
+
+-- each turn starts when it may
+abbrev pub AreValidEvents : Settings → History → List Event → Type 0
+AreValidEvents settings past [] = Unit {0}
+AreValidEvents settings past (Turn m ∷ events) = MayHappen settings past m × AreValidEvents settings (history_after past (Turn m)) events
+AreValidEvents settings past (Hit h ∷ events) = AreValidEvents settings (history_after past (Hit h)) events
+
+-- the same turn, started at another moment
+abbrev pub started : Timed → ℕ → Timed
+started m start = record { turn = m.turn; shift = m.shift; start = start }
+
+-- no hit that has been ends after this moment
+abbrev pub AreOver : ℕ → List HasBeen → Type 0
+AreOver start hits = AllByRecursion (λ hit. hit.ended ≤ℤ pos start) hits
+
+-- one thing after the other: each turn starts at the least moment at which it may and no hit goes on
+pub record IsLeastInOrder (settings : Settings) (past : History) (m : Timed) : Type 0 where
+  pub may : MayHappen settings past m
+  pub over : AreOver m.start past.hits
+  pub least : (other : ℕ) → MayHappen settings past (started m other) → AreOver other past.hits → m.start ≤ other
+
+abbrev pub AreChosenEvents : Settings → History → List Event → Type 0
+AreChosenEvents settings past [] = Unit {0}
+AreChosenEvents settings past (Turn m ∷ events) = IsLeastInOrder settings past m × AreChosenEvents settings (history_after past (Turn m)) events
+AreChosenEvents settings past (Hit h ∷ events) = AreChosenEvents settings (history_after past (Hit h)) events
+
+-- the gliders of all turns
+abbrev pub stream_of : Settings → List Event → Plane
+stream_of settings [] = nothing
+stream_of settings (Turn m ∷ events) = union (turn_gliders settings m) (stream_of settings events)
+stream_of settings (Hit h ∷ events) = stream_of settings events
+
+abbrev pub has_hit : List Event → Bool
+has_hit [] = false
+has_hit (Turn m ∷ events) = has_hit events
+has_hit (Hit h ∷ events) = true
+
+-- the first hand, where there is a hit
+abbrev pub first_hand : Plane → List Event → Plane
+first_hand hand events = if has_hit events then hand else nothing
+
+-- the start elbow, the first hand and the stream, moved back to the target's place
+abbrev pub pattern_of : Settings → List RawKind → ℕ → Plane → List Event → Cell → Plane
+pattern_of settings kinds start hand events back = shift back.x back.y (union (kind_plane kinds start) (union (first_hand hand events) (stream_of settings events)))
+
+-- the end of the last turn, those before it ending by this
+abbrev pub turns_end : ℕ → List Event → ℕ
+turns_end last [] = last
+turns_end last (Turn m ∷ events) = turns_end (end m) events
+turns_end last (Hit h ∷ events) = turns_end last events
+
+-- the end of the last hit, if there is one
+abbrev pub hits_end : History → List Event → Option ℤ → Option ℤ
+hits_end past [] last = last
+hits_end past (Turn m ∷ events) last = hits_end (history_after past (Turn m)) events last
+hits_end past (Hit h ∷ events) last = hits_end (history_after past (Hit h)) events (ended past.past.throw)
+  where
+    ended : Option Thrown → Option ℤ
+    ended None = last
+    ended (Some g) = Some (hit_end g h)
+
+-- n is the greater of the end of the last turn and the end of the last hit
+pub record IsNumber (events : List Event) (n : ℕ) : Type 0 where
+  pub turns : turns_end 0 events ≤ n
+  pub hits : (last : ℤ) → hits_end no_history events None ≡ Some last → last ≤ℤ pos n
+  pub least : (n ≡ turns_end 0 events) ⊎ ((last : ℤ) × ((hits_end no_history events None ≡ Some last) × (pos n ≡ last)))

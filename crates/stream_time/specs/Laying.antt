@@ -1,0 +1,28 @@
+-- A stream that is laid out as cells, turn by turn.
+use Rattle.std.specs.Prelude.{◌≡◌, ℕ, ◌+◌, ◌*◌, ◌≤◌, ◌^◌, pos, neg_ℤ, ◌+ℤ◌, ◌≤ℤ◌, List}
+use Rattle.life_plane.specs.Plane.{union}
+use Rattle.life_cells.specs.Listed.{listed}
+use Rattle.book_parts.specs.declared.settings.Settings.{Settings}
+use Rattle.book_parts.specs.declared.turn.RawTurn.{RawTurn}
+use Rattle.stream_time.specs.Schedule.{step_of}
+use Rattle.stream_time.specs.Pattern.{turn_gliders, stream, last_end}
+use Rattle.stream_time.specs.Timing.{timed, wait}
+use Rattle.stream_time.specs.declared.layout.Layout.{Layout}
+
+-- the numbers of a layout after so many turns
+pub record IsEarly (turns : ℕ) (layout : Layout) : Type 0 where
+  pub west : neg_ℤ (pos (turns * 2 ^ 30)) ≤ℤ layout.shift
+  pub east : layout.shift ≤ℤ pos (turns * 2 ^ 30)
+  pub start : layout.start ≤ turns * 2 ^ 33
+
+-- one more turn is laid out
+pub record IsPushed (settings : Settings) (turn : RawTurn) (old new : Layout) : Type 0 where
+  pub cells : listed new.cells.items ≡ union (listed old.cells.items) (turn_gliders settings (record { turn = turn; shift = old.shift; start = old.start }))
+  pub shift : new.shift ≡ old.shift +ℤ step_of turn.end
+  pub over : new.over ≡ old.start + turn.n
+  pub start : new.start ≡ (old.start + turn.n) + wait turn.end
+
+-- these turns are laid out, the first at the elbow's place in generation 0
+pub record IsLaidOut (settings : Settings) (turns : List RawTurn) (layout : Layout) : Type 0 where
+  pub cells : listed layout.cells.items ≡ stream settings (timed turns (pos 0) 0)
+  pub over : layout.over ≡ last_end (timed turns (pos 0) 0)
