@@ -143,7 +143,7 @@ fn run_and_report<D: Depot, O: Sink, E: Sink, L: Ledger>(
 }
 
 /// Runs the command that the words say: its texts are fetched from `depot`, its answer is put to `out`, and where it has no
-/// answer a line is put to `err`. Each generation that an engine makes is counted in `steps`.
+/// answer a line is put to `err`. Each generation that an engine makes is counted in `steps`. The statuses are those of docs/FORMATS.md.
 pub fn life_run<D: Depot, O: Sink, E: Sink, L: Ledger>(
     alloc: Global,
     words: &[String],

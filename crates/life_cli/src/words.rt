@@ -143,7 +143,11 @@ fn read_replay(words: &[String]) -> Result<Command<'_>, WordsError>
     }
 }
 
-/// The command that the words say.
+/// The command that the words say: `compile BOOK TARGET` or `replay PATTERN N` (docs/FORMATS.md, "Command line").
+///
+/// # Errors
+/// The first that holds, in this order: no word, a word that begins with `-`, an unknown command, another number of words, an N that is no
+/// number from 0 to 2^32 - 1. Words count from 1.
 pub fn read_words(words: &[String]) -> Result<Command<'_>, WordsError>
     ensures ok { IfOk result (λ command. Ask words.now (request_of command)) }
     ensures err { IfErr result (λ e. AreRefused words.now e) }

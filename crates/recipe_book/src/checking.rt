@@ -91,7 +91,12 @@ fn check_states(
     }
 }
 
-/// The book with exactly its sound turns. Each turn is evolved once, and the kinds and the hand for one generation each.
+/// The book with exactly its sound turns (docs/DEFINITIONS.md, "Sound turn"), in book order. Each turn is evolved once, and the kinds
+/// and the hand for one generation each; every generation is counted in `steps`.
+///
+/// # Errors
+/// The first that holds, in this order: a kind out of place or not still, the first such kind (`KindPlace`, `KindNotStill`); a hand that
+/// isn't still (`HandNotStill`); more than 4,194,304 elbow states (`ElbowMany`). `Memory` for want of memory, at any time.
 pub fn check_book<L: Ledger>(
     alloc: Global,
     book: RawBook,

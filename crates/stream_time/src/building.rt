@@ -115,7 +115,11 @@ fn build(alloc: Global, book: &CheckedBook, route: &[usize]) -> Result<Built, No
 }
 
 /// The pattern and the number of generations by which a book builds nothing: its start elbow, closed by the least list of turns, each
-/// as soon as it may start.
+/// as soon as it may start (docs/DEFINITIONS.md). Generations count from 0, in which the pattern stands.
+///
+/// # Errors
+/// `NoClosing` with the start kind, counted from 1, and shift 0, exactly where no list of sound turns closes the elbow; `StreamLong` with
+/// the number of gliders, exactly where the least list has more than 2^20. `Memory` for want of memory, at any time.
 pub fn compile(alloc: Global, book: &CheckedBook) -> Result<Built, PlanError>
     ensures ok { IfOk result (λ built. IsBuilt book.now built) }
     ensures err { IfErr result (λ e. BuildingIsRefused (raws book.now.turns) book.now.settings.span book.now.start e) }
