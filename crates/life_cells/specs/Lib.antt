@@ -12,3 +12,5 @@ pub mod Same
 pub mod SameLaws
 pub mod Difference
 pub mod Close
+pub mod Firsts
+pub mod FirstLaws

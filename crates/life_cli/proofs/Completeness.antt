@@ -33,7 +33,8 @@ use Rattle.life_cli.specs.Words as command
 use Rattle.life_cli.specs.Words.{IsCompile, IsReplay, IsGenerations, AreRefused, texts_of}
 use Rattle.life_cli.specs.Requests.{Request, Ask}
 use Rattle.life_cli.specs.Requests.Request.{Compile, Replay}
-use Rattle.life_cli.specs.Causes.{IsHeld, IsLong, HoldsBook, IsFirstLive, PlanningIsRefused, BuildingIsRefused, CompilingIsRefused, ReplayingIsRefused}
+use Rattle.life_cells.specs.Firsts.{IsFirstLive}
+use Rattle.life_cli.specs.Causes.{IsHeld, IsLong, HoldsBook, PlanningIsRefused, BuildingIsRefused, CompilingIsRefused, ReplayingIsRefused}
 use Rattle.life_cli.specs.Run.{IsRefused, HasNoAnswer, Ends}
 use Rattle.life_cli.specs.Complete.{HoldsFine, IsBuildable, HasNoRefusal, IsDue, IsDoneBut}
 

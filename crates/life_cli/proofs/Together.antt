@@ -16,7 +16,8 @@ use Rattle.life_cli.specs.declared.status.Which.TheVariants.{Book, Target, Patte
 use Rattle.life_cli.specs.declared.status.Status.{Status}
 use Rattle.life_cli.specs.declared.status.Status.TheVariants.{ReadFault, TooLong, BadRle, BadBookText, BadBook, NoPlan, StreamLong, Memory, NotYet}
 use Rattle.life_cli.specs.Compiled.{IsAnswer, AnswersBook}
-use Rattle.life_cli.specs.Causes.{HoldsBook, HoldsPattern, IsFirstLive, BookReadingIsRefused, PatternReadingIsRefused, TargetIsRefused, TargetReadingIsRefused, BuildingIsRefused, CompilingIsRefused}
+use Rattle.life_cells.specs.Firsts.{IsFirstLive}
+use Rattle.life_cli.specs.Causes.{HoldsBook, HoldsPattern, BookReadingIsRefused, PatternReadingIsRefused, TargetIsRefused, TargetReadingIsRefused, BuildingIsRefused, CompilingIsRefused}
 
 -- the book's text is refused
 pub book_refuses : (told : Option (List HeldText)) (book target : List ℕ) (before now : ℕ) (status : Status) → BookReadingIsRefused told book before now status → CompilingIsRefused told book target before now status

@@ -4,6 +4,7 @@ use Rattle.std.specs.declared.option.Option.{Option}
 use Rattle.life_plane.specs.Plane.{Plane, nothing}
 use Rattle.life_cells.specs.Cells.{cell}
 use Rattle.life_cells.specs.declared.cell.Cell.{Cell}
+use Rattle.life_cells.specs.Firsts.{IsFirstLive}
 use Rattle.life_io.specs.Counts.{Rose}
 use Rattle.life_io.specs.Sinks.{AppendsPrefix}
 use Rattle.life_io.specs.Texts.{HeldText, text_of}
@@ -13,7 +14,6 @@ use Rattle.life_rle.specs.declared.error.RleError as rle
 use Rattle.book_text.specs.Book.{Said, StopsWith}
 use Rattle.book_text.specs.declared.error.BookError as book
 use Rattle.book_parts.specs.declared.turn.RawTurn.{RawTurn}
-use Rattle.recipe_turn.specs.Kind.{IsFirstOf}
 use Rattle.recipe_book.specs.Entries.{AreTheSound}
 use Rattle.recipe_book.specs.Refusals.{BookIsRefused}
 use Rattle.recipe_book.specs.declared.refusal.BookRefusal as check
@@ -47,10 +47,6 @@ pub record HoldsPattern (texts : List HeldText) (name : List ℕ) (s : Plane) : 
   pub text : List ℕ
   pub held : IsHeld texts name text
   pub means : Means text s
-
--- the first live cell
-abbrev pub IsFirstLive : Plane → Cell → Type 0
-IsFirstLive s first = IsFirstOf (λ x y. s x y ≡ true) first
 
 -- ---- one step alone
 

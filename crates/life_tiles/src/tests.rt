@@ -4,7 +4,7 @@ ghost use Rattle.std.specs.Prelude.{◌≡◌, ◌<◌, ◌^◌, IfOk};
 ghost use Rattle.life_cells.specs.Boxes.{IsInRange};
 ghost use Rattle.life_cells.specs.Cells.{alive};
 
-use crate::Tiles;
+use crate::{Tiles, first_change};
 use life_cells::{Bounds, Cell, CellSet, NoMemory};
 use life_steps::Steps;
 use std::alloc::Global;
@@ -35,6 +35,21 @@ fn step_once<L: Ledger>(alloc: Global, cells: &CellSet, blank: Blank) -> Result<
         cells: tiles.to_cells()?,
         bounds: tiles.bounds(),
     })
+}
+
+// The first cell of a pattern that changes.
+fn change_of<L: Ledger>(
+    alloc: Global,
+    cells: &CellSet,
+    blank: Blank,
+) -> Result<Option<Cell>, NoMemory>
+    requires cells { IsInRange (2 ^ 61) (alive cells.now) }
+    requires name { blank.name ≡ L.name }
+    requires parts { blank.parts ≡ L.parts }
+    requires some { 0 < blank.parts }
+{
+    let mut steps = Steps::<L>::new(blank);
+    first_change(alloc, cells, &mut steps)
 }
 
 // These cells, none of them far out.
@@ -78,5 +93,16 @@ fn still_lifes_stay(rt: HostRuntime) -> Result<(), Fail> {
         block.bounds.map(|b| (b.left, b.top, b.right, b.bottom)),
         Some((0, 0, 1, 1))
     );
+    Ok(())
+}
+
+#[test]
+fn the_first_change_is_told(rt: HostRuntime) -> Result<(), Fail> {
+    let line = cells_at(&rt, rt.alloc(), &[(0, 0), (1, 0), (2, 0)])?;
+    let change = change_of::<Brand>(rt.alloc(), &line, Blank::new(1))?;
+    assert_eq!(rt; change, Some(Cell::new(1, -1)));
+    let square = cells_at(&rt, rt.alloc(), &[(0, 0), (1, 0), (0, 1), (1, 1)])?;
+    let still = change_of::<Brand>(rt.alloc(), &square, Blank::new(1))?;
+    assert_eq!(rt; still, None);
     Ok(())
 }

@@ -7,7 +7,7 @@ use Rattle.life_cells.specs.declared.cell.Cell.{Cell}
 use Rattle.book_parts.specs.declared.settings.Settings.{Settings}
 use Rattle.book_parts.specs.declared.kind.RawKind.{RawKind}
 use Rattle.book_parts.specs.declared.turn.RawTurn.{RawTurn}
-use Rattle.recipe_turn.specs.Kind.{IsFirstChange}
+use Rattle.life_cells.specs.Firsts.{IsFirstChange}
 use Rattle.recipe_turn.specs.Checked.{AreValid}
 use Rattle.recipe_turn.specs.Refusals.{KindsAreRefused}
 use Rattle.recipe_turn.specs.Elbows.{HasStates, HasMoreStates}

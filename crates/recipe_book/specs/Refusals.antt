@@ -5,7 +5,7 @@ use Rattle.book_parts.specs.declared.settings.Settings.{Settings}
 use Rattle.life_plane.specs.Plane.{IsStill}
 use Rattle.book_parts.specs.declared.kind.RawKind.{RawKind}
 use Rattle.book_parts.specs.declared.turn.RawTurn.{RawTurn}
-use Rattle.recipe_turn.specs.Kind.{IsFirstChange}
+use Rattle.life_cells.specs.Firsts.{IsFirstChange}
 use Rattle.recipe_turn.specs.Checked.{AreValid}
 use Rattle.recipe_turn.specs.Refusals.{KindsAreRefused}
 use Rattle.recipe_turn.specs.Elbows.{HasMoreStates}

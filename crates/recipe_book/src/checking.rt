@@ -18,7 +18,8 @@ use crate::refusal::BookRefusal;
 use book_parts::{RawBook, RawKind, Settings};
 use life_cells::{CellSet, NoMemory};
 use life_steps::Steps;
-use recipe_turn::{CheckedTurn, Kinds, KindsError, check_kinds, elbow_states, first_change};
+use life_tiles::first_change;
+use recipe_turn::{CheckedTurn, Kinds, KindsError, check_kinds, elbow_states};
 use std::alloc::Global;
 use std::sync::ledger::Ledger;
 

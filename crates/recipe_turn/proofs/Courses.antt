@@ -9,7 +9,7 @@ use Rattle.life_cells.specs.Difference.{IsFirstDifference}
 use Rattle.book_parts.specs.declared.settings.Settings.{Settings}
 use Rattle.book_parts.specs.declared.turn.RawTurn.{RawTurn}
 use Rattle.recipe_turn.specs.Turn.{gliders, turn_start}
-use Rattle.recipe_turn.specs.Refusals.{IsFirstDifferent}
+use Rattle.life_cells.specs.Firsts.{IsFirstDifferent}
 
 -- how far the cells of a generation lie
 pub course_range : (start s : Plane) (t n : ℕ) → IsInRange (2 ^ 40) start → t ≤ 65536 → s ≡ run t start → 2 ^ 41 ≤ n → IsInRange n s

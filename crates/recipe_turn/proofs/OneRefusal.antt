@@ -15,7 +15,9 @@ use Rattle.book_parts.specs.declared.kind.RawKind.{RawKind}
 use Rattle.book_parts.specs.declared.turn.RawTurn.{RawTurn}
 use Rattle.book_parts.specs.declared.turn.TurnEnd.{TurnEnd}
 use Rattle.book_parts.specs.declared.turn.TurnEnd.TheVariants.{Close, Move, Emit}
-use Rattle.recipe_turn.specs.Kind.{IsFirstOf, IsValidKind, IsFirstOutOfPlace, IsFirstChange, AreInPlace}
+use Rattle.life_cells.specs.Firsts.{IsFirstOf, IsFirstChange}
+use Rattle.life_cells.specs.FirstLaws.{one_first}
+use Rattle.recipe_turn.specs.Kind.{IsValidKind, IsFirstOutOfPlace, AreInPlace}
 use Rattle.recipe_turn.specs.Turn.{IsSound}
 use Rattle.recipe_turn.specs.Gaps.{AreApart, AreApartFrom, IsFirstNarrow}
 use Rattle.recipe_turn.specs.Breaches.{KeepsBefore, IsFirstBreach}
@@ -27,15 +29,6 @@ use Rattle.recipe_turn.specs.declared.refusal.TurnRefusal.{TurnRefusal}
 use Rattle.recipe_turn.specs.declared.refusal.TurnRefusal.TheVariants.{Gap, Short, EndDiffers, Reach, Tail, Wall, Memory}
 use Rattle.recipe_turn.proofs.Delays.{each_at}
 use Rattle.recipe_turn.proofs.Spacing.{spaced_apart}
-
--- ---- one first cell
-
-one_first : (P : ℤ → ℤ → Type 0) (c d : Cell) → IsFirstOf P c → IsFirstOf P d → c ≡ d
-one_first P c d f g = elim (cell_cmp c d) as (λ o. cell_cmp c d ≡ o → c ≡ d) [
-  | Less ↦ λ e. absurd (g.none_before c.x c.y f.is e)
-  | Equal ↦ λ e. cells_antisymmetric c d e
-  | Greater ↦ λ e. absurd (f.none_before d.x d.y g.is (cells_total.antisymm d c ∙ ap ordering_reverse e))
-] refl
 
 -- ---- one first narrow gap
 

@@ -6,7 +6,7 @@ use Rattle.std.specs.declared.option.Option.TheVariants.{Some, None}
 use Rattle.life_plane.specs.Plane.{Plane, run}
 use Rattle.life_cells.specs.declared.cell.Cell.{Cell}
 use Rattle.book_parts.specs.declared.settings.Settings.{Settings}
-use Rattle.recipe_turn.specs.Kind.{IsFirstOf}
+use Rattle.life_cells.specs.Firsts.{IsFirstOf}
 use Rattle.recipe_turn.specs.Turn.{IsInReach, IsAheadOrOwn}
 use Rattle.recipe_turn.specs.declared.breaches.Breach.{Breach}
 use Rattle.recipe_turn.specs.declared.breaches.Breaches.{Breaches}

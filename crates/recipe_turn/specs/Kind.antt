@@ -1,9 +1,8 @@
 -- A valid kind: a still life in its place, behind the wall and before the stream.
-use Rattle.std.specs.declared.cmp.Ordering.TheVariants.{Less}
-use Rattle.life_cells.specs.Cells.{cell, cell_cmp}
 use Rattle.life_cells.specs.declared.cell.Cell.{Cell}
-use Rattle.std.specs.Prelude.{◌≡◌, ◌≢◌, true, ℤ, pos, ◌+ℤ◌, ◌-ℤ◌, ◌*ℤ◌, ◌≤ℤ◌}
-use Rattle.life_plane.specs.Plane.{Plane, IsStill, step}
+use Rattle.life_cells.specs.Firsts.{IsFirstOf}
+use Rattle.std.specs.Prelude.{◌≡◌, true, ℤ, pos, ◌+ℤ◌, ◌-ℤ◌, ◌*ℤ◌, ◌≤ℤ◌}
+use Rattle.life_plane.specs.Plane.{Plane, IsStill}
 use Rattle.book_parts.specs.declared.settings.Settings.{Settings}
 
 -- a cell that a kind may have: u = x - y is at most the wall, and v = x + y at least 10 less half the approach
@@ -26,15 +25,6 @@ pub record IsValidKind (settings : Settings) (s : Plane) : Type 0 where
   pub still : IsStill s
   pub place : AreInPlace settings s
 
--- the first place in (y,x) order that has this property
-pub record IsFirstOf (P : ℤ → ℤ → Type 0) (first : Cell) : Type 0 where
-  pub is : P first.x first.y
-  pub none_before : (x y : ℤ) → P x y → cell_cmp (cell x y) first ≢ Less
-
 -- the first live cell that is out of place
 abbrev pub IsFirstOutOfPlace : Settings → Plane → Cell → Type 0
 IsFirstOutOfPlace settings s first = IsFirstOf (λ x y. (s x y ≡ true) × (IsInPlace settings x y → ⊥)) first
-
--- the first cell that changes in the next generation
-abbrev pub IsFirstChange : Plane → Cell → Type 0
-IsFirstChange s first = IsFirstOf (λ x y. step s x y ≢ s x y) first

@@ -9,7 +9,8 @@ use Rattle.book_parts.specs.declared.kind.RawKind.{RawKind}
 use Rattle.book_parts.specs.declared.turn.RawTurn.{RawTurn}
 use Rattle.book_parts.specs.declared.turn.TurnEnd.{TurnEnd}
 use Rattle.book_parts.specs.declared.turn.TurnEnd.TheVariants.{Close, Move, Emit}
-use Rattle.recipe_turn.specs.Kind.{AreInPlace, IsFirstOf, IsFirstOutOfPlace, IsFirstChange}
+use Rattle.life_cells.specs.Firsts.{IsFirstChange, IsFirstDifferent}
+use Rattle.recipe_turn.specs.Kind.{AreInPlace, IsFirstOutOfPlace}
 use Rattle.recipe_turn.specs.Checked.{AreValid}
 use Rattle.recipe_turn.specs.Turn.{turn_start, turn_end, AreSpaced, IsAheadOrOwn, IsInFront, KeepsBounds}
 use Rattle.recipe_turn.specs.Gaps.{AreApart, IsFirstNarrow}
@@ -44,10 +45,6 @@ KindIsRefused settings number s (kinds.NotStill kind cell) = (kind ≡ number) �
 KindIsRefused settings number s kinds.Memory = Unit {0}
 
 -- ---- turns
-
--- the first cell in just one of two planes
-abbrev pub IsFirstDifferent : Plane → Plane → Cell → Type 0
-IsFirstDifferent s t first = IsFirstOf (λ x y. s x y ≢ t x y) first
 
 -- a turn with wide gaps ends as it states
 pub record EndsAsStated (settings : Settings) (kind next : Plane) (turn : RawTurn) : Type 0 where

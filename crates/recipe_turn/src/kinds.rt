@@ -1,20 +1,18 @@
 //! Kinds of elbow: still lifes in their place.
 
-ghost use Rattle.std.specs.Prelude.{◌≡◌, ◌+◌, ◌^◌, ◌≤◌, ◌↔◌, IsTrue, IfOk, IfErr, MatchOption};
-ghost use Rattle.life_plane.specs.Plane.{IsStill};
+ghost use Rattle.std.specs.Prelude.{◌+◌, ◌≤◌, ◌↔◌, IsTrue, IfOk, IfErr, MatchOption};
 ghost use Rattle.life_cells.specs.Cells.{alive};
-ghost use Rattle.life_cells.specs.Boxes.{IsInRange};
 ghost use Rattle.book_parts.specs.Limits.{AreProper, IsPlaced, IsCoordinate};
 ghost use Rattle.book_parts.specs.Proper.{HasLife};
-ghost use Rattle.recipe_turn.specs.Kind.{AreInPlace, IsInPlace, IsFirstOutOfPlace, IsFirstChange, IsValidKind};
+ghost use Rattle.recipe_turn.specs.Kind.{AreInPlace, IsInPlace, IsFirstOutOfPlace, IsValidKind};
 ghost use Rattle.recipe_turn.specs.Refusals.{KindIsRefused};
 
 use crate::diagonals::{ahead_of_tail, u_of};
 use crate::refusal::KindsError;
 use book_parts::Settings;
-use life_cells::{Cell, CellSet, NoMemory};
+use life_cells::{Cell, CellSet};
 use life_steps::Steps;
-use life_tiles::Tiles;
+use life_tiles::first_change;
 use std::alloc::Global;
 use std::sync::ledger::Ledger;
 
@@ -40,23 +38,6 @@ pub fn first_out_of_place(settings: &Settings, cells: &CellSet) -> Option<Cell>
         }
     }
     None
-}
-
-/// The first cell that changes in the next generation, which is counted; None exactly where the set is still.
-pub fn first_change<L: Ledger>(
-    alloc: Global,
-    cells: &CellSet,
-    steps: &mut Steps<L>,
-) -> Result<Option<Cell>, NoMemory>
-    requires { IsInRange (2 ^ 61) (alive cells.now) }
-    ensures change { IfOk result (λ change. MatchOption change (IsStill (alive cells.now)) (IsFirstChange (alive cells.now))) }
-    ensures least { steps.old ≤ steps.new }
-    ensures most { steps.new ≤ steps.old + 1 }
-{
-    let mut tiles = Tiles::from_cells(alloc, cells)?;
-    tiles.step(steps)?;
-    let next = tiles.to_cells()?;
-    Ok(cells.first_difference(&next))
 }
 
 /// Refuses the kind with this number where its cells are out of place or change.

@@ -25,7 +25,7 @@ mod tests;
 pub use checked_kinds::{Kinds, check_kinds};
 pub use checked_turn::{CheckedTurn, check_turn};
 pub use elbow::{Elbow, elbow_after};
-pub use kinds::{first_change, first_out_of_place};
+pub use kinds::first_out_of_place;
 pub use own_gliders::starting_gliders;
 pub use refusal::{KindsError, TurnRefusal};
 pub use state_laws::{states_have_one_number, states_within_are_not_more};

@@ -7,7 +7,7 @@ use Rattle.recipe_turn.specs.Turn.{IsAheadOrOwn}
 use Rattle.recipe_turn.proofs.Places.{live_at, at_place, each_more, each_live}
 use Rattle.recipe_turn.proofs.Comparisons.{true≢false}
 use Rattle.recipe_turn.proofs.Ranges.{live_within}
-use Rattle.recipe_turn.proofs.First.{first_place}
+use Rattle.life_cells.specs.FirstLaws.{first_place}
 use Rattle.recipe_turn.proofs.limits.first_behind.Goals as goal
 
 pub is_ahead_or_own-requires-clause-cell : goal.is_ahead_or_own-requires-clause-cell

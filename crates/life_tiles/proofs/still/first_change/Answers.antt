@@ -1,8 +1,8 @@
 use Rattle.std.proofs.Common.{◌∙◌, ap}
 use Rattle.life_plane.specs.Plane.{step}
 use Rattle.life_cells.specs.Cells.{alive}
-use Rattle.recipe_turn.proofs.First.{changed}
-use Rattle.recipe_turn.proofs.kinds.first_change.Goals as goal
+use Rattle.life_cells.specs.FirstLaws.{changed}
+use Rattle.life_tiles.proofs.still.first_change.Goals as goal
 
 pub returns-clause-change : goal.returns-clause-change
 returns-clause-change g c =

@@ -1,0 +1,16 @@
+//! Hits at the hand, and slow salvos, tested by evolving them. A salvo's gliders travel north-east (up and right), one after the other, each
+//! on its lane; x goes right and y goes down.
+#![tactic(auto)]
+
+pub mod checked_salvo;
+pub mod hand;
+pub mod hit;
+pub mod laws;
+pub mod refusal;
+pub mod striking;
+
+pub use checked_salvo::{CheckedSalvo, check_salvo};
+pub use hand::{Hand, check_hand};
+pub use hit::Hit;
+pub use refusal::{HandRefusal, HitRefusal, SalvoRefusal};
+pub use striking::hit;
