@@ -1,0 +1,3 @@
+-- Lemmas on targets.
+pub mod Sides
+pub mod OneRefusal

@@ -1,0 +1,26 @@
+-- The box about what lives, its sides, and sets with no cell.
+use Rattle.std.proofs.Common.{◌≡◌, ℕ, ◌≤◌, ◌<◌, ◌^◌, true, ℤ, pos, neg_ℤ, ◌≤ℤ◌, refl, sym, ap, subst, ◌∙◌, inl, inr, arith}
+use Rattle.std.proofs.lemmas.Int.{ints, clamps}
+use Rattle.life_plane.specs.Plane.{Plane, nothing}
+use Rattle.life_cells.specs.Cells.{Cells, alive, empty}
+use Rattle.life_cells.specs.Laws.{alive-empty}
+use Rattle.life_cells.specs.Boxes.{InBox, Holds, IsInRange, IsLeastBox}
+use Rattle.life_cells.specs.declared.bounds.Bounds.{Bounds}
+use Rattle.build_plan.specs.Targets.{IsBoxInRange, IsNarrow, HasSide}
+
+-- the box of all coordinates from -n to n
+abbrev range_box : ℕ → Bounds
+range_box n = record { left = neg_ℤ (pos n); top = neg_ℤ (pos n); right = pos n; bottom = pos n }
+
+-- the least box about what lives in a range is in the range
+pub least_in_range : (n : ℕ) (s : Plane) (box : Bounds) → IsInRange n s → IsLeastBox box s → IsBoxInRange n box
+least_in_range n s box h l =
+    let within = l.least (range_box n) (record { each = λ x y live. record { right_of_left = h.x_low x y live; below_top = h.y_low x y live; left_of_right = h.x_high x y live; above_bottom = h.y_high x y live } }) in
+    let there = l.lives in
+    let here = l.holds.each there.0 there.1.0 there.1.1 in
+    let a = here.right_of_left in let b = here.left_of_right in let c = here.below_top in let d = here.above_bottom in
+    record { columns = omega (arith, ints); rows = omega (arith, ints); left = within.left; right = within.right; top = within.top; bottom = within.bottom }
+
+-- a set with no cell is narrow
+pub empty_is_narrow : (s : Cells) → s ≡ empty → IsNarrow (alive s)
+empty_is_narrow s e = inl (ap alive e ∙ alive-empty)

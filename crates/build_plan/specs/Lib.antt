@@ -1,0 +1,2 @@
+-- What is built: targets.
+pub mod Targets

@@ -1,0 +1,10 @@
+//! What a book is to build. A target is a still life that was tested.
+#![tactic(auto)]
+
+pub mod refusal;
+pub mod target;
+#[cfg(test)]
+mod tests;
+
+pub use refusal::TargetError;
+pub use target::Target;
