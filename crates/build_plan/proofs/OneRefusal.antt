@@ -10,7 +10,6 @@ use Rattle.life_cells.specs.Firsts.{IsFirstChange}
 use Rattle.life_cells.specs.FirstLaws.{one_first}
 use Rattle.life_islands.specs.Islands.{AreIslands}
 use Rattle.life_islands.specs.declared.island.Island.{Island}
-use Rattle.life_islands.specs.Laws.{one_list}
 use Rattle.build_plan.specs.Targets.{width, height, most_side, most_islands, HasSide, IsNarrow, HasIslands, IsTarget, TargetIsRefused}
 use Rattle.build_plan.specs.declared.refusal.TargetError.{TargetError}
 use Rattle.build_plan.specs.declared.refusal.TargetError.TheVariants.{TooWide, NotStill, TooManyIslands, Memory}
@@ -38,30 +37,34 @@ narrow_clash s side (inr (other, (k, few))) h over = let same = one_side s side 
 still_clash : (s : Plane) (cell : Cell) → IsStill s → IsFirstChange s cell → ⊥
 still_clash s cell still first = first.is (ap (λ (p : Plane). p cell.x cell.y) still)
 
--- a plane has one number of islands
-one_number : (s : Plane) (a b : ℕ) → HasIslands s a → HasIslands s b → a ≡ b
-one_number s a b (xs, (h, e)) (ys, (k, f)) = sym e ∙ ap length (one_list s xs ys h k) ∙ f
+-- a plane has one list of islands
+abbrev OneList : Type 0
+OneList = (s : Plane) (a b : List Island) → AreIslands s a → AreIslands s b → a ≡ b
 
-number_clash : (s : Plane) (a b : ℕ) → HasIslands s a → HasIslands s b → a ≤ most_islands → most_islands < b → ⊥
-number_clash s a b h k few many = let same = one_number s a b h k in absurd (omega arith)
+-- so it has one number of them
+one_number : OneList → (s : Plane) (a b : ℕ) → HasIslands s a → HasIslands s b → a ≡ b
+one_number one s a b (xs, (h, e)) (ys, (k, f)) = sym e ∙ ap length (one s xs ys h k) ∙ f
 
-pub no_refusal : (s : Plane) (e : TargetError) → IsTarget s → TargetIsRefused s e → e ≡ Memory
-no_refusal s (TooWide side) t (h, over) = absurd (narrow_clash s side t.narrow h over)
-no_refusal s (NotStill cell) t (narrow, first) = absurd (still_clash s cell t.still first)
-no_refusal s (TooManyIslands count) t (narrow, (still, (has, many))) = absurd (number_clash s t.islands.0 count t.islands.1.0 has t.islands.1.1 many)
-no_refusal s Memory t h = refl
+number_clash : OneList → (s : Plane) (a b : ℕ) → HasIslands s a → HasIslands s b → a ≤ most_islands → most_islands < b → ⊥
+number_clash one s a b h k few many = let same = one_number one s a b h k in absurd (omega arith)
 
-pub one_refusal : (s : Plane) (e f : TargetError) → TargetIsRefused s e → TargetIsRefused s f → e ≢ Memory → f ≢ Memory → e ≡ f
-one_refusal s Memory f h k other another = absurd (other refl)
-one_refusal s (TooWide a) Memory h k other another = absurd (another refl)
-one_refusal s (NotStill a) Memory h k other another = absurd (another refl)
-one_refusal s (TooManyIslands a) Memory h k other another = absurd (another refl)
-one_refusal s (TooWide a) (TooWide b) h k other another = ap TooWide (one_side s a b h.0 k.0)
-one_refusal s (TooWide a) (NotStill b) h k other another = absurd (narrow_clash s a k.0 h.0 h.1)
-one_refusal s (TooWide a) (TooManyIslands b) h k other another = absurd (narrow_clash s a k.0 h.0 h.1)
-one_refusal s (NotStill a) (TooWide b) h k other another = absurd (narrow_clash s b h.0 k.0 k.1)
-one_refusal s (NotStill a) (NotStill b) h k other another = ap NotStill (one_first _ a b h.1 k.1)
-one_refusal s (NotStill a) (TooManyIslands b) h k other another = absurd (still_clash s a k.1.0 h.1)
-one_refusal s (TooManyIslands a) (TooWide b) h k other another = absurd (narrow_clash s b h.0 k.0 k.1)
-one_refusal s (TooManyIslands a) (NotStill b) h k other another = absurd (still_clash s b h.1.0 k.1)
-one_refusal s (TooManyIslands a) (TooManyIslands b) h k other another = ap TooManyIslands (one_number s a b h.1.1.0 k.1.1.0)
+pub no_refusal : OneList → (s : Plane) (e : TargetError) → IsTarget s → TargetIsRefused s e → e ≡ Memory
+no_refusal one s (TooWide side) t (h, over) = absurd (narrow_clash s side t.narrow h over)
+no_refusal one s (NotStill cell) t (narrow, first) = absurd (still_clash s cell t.still first)
+no_refusal one s (TooManyIslands count) t (narrow, (still, (has, many))) = absurd (number_clash one s t.islands.0 count t.islands.1.0 has t.islands.1.1 many)
+no_refusal one s Memory t h = refl
+
+pub one_refusal : OneList → (s : Plane) (e f : TargetError) → TargetIsRefused s e → TargetIsRefused s f → e ≢ Memory → f ≢ Memory → e ≡ f
+one_refusal one s Memory f h k other another = absurd (other refl)
+one_refusal one s (TooWide a) Memory h k other another = absurd (another refl)
+one_refusal one s (NotStill a) Memory h k other another = absurd (another refl)
+one_refusal one s (TooManyIslands a) Memory h k other another = absurd (another refl)
+one_refusal one s (TooWide a) (TooWide b) h k other another = ap TooWide (one_side s a b h.0 k.0)
+one_refusal one s (TooWide a) (NotStill b) h k other another = absurd (narrow_clash s a k.0 h.0 h.1)
+one_refusal one s (TooWide a) (TooManyIslands b) h k other another = absurd (narrow_clash s a k.0 h.0 h.1)
+one_refusal one s (NotStill a) (TooWide b) h k other another = absurd (narrow_clash s b h.0 k.0 k.1)
+one_refusal one s (NotStill a) (NotStill b) h k other another = ap NotStill (one_first _ a b h.1 k.1)
+one_refusal one s (NotStill a) (TooManyIslands b) h k other another = absurd (still_clash s a k.1.0 h.1)
+one_refusal one s (TooManyIslands a) (TooWide b) h k other another = absurd (narrow_clash s b h.0 k.0 k.1)
+one_refusal one s (TooManyIslands a) (NotStill b) h k other another = absurd (still_clash s b h.1.0 k.1)
+one_refusal one s (TooManyIslands a) (TooManyIslands b) h k other another = ap TooManyIslands (one_number one s a b h.1.1.0 k.1.1.0)

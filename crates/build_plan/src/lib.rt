@@ -1,6 +1,7 @@
 //! What a book is to build. A target is a still life that was tested.
 #![tactic(auto)]
 
+pub mod laws;
 pub mod refusal;
 pub mod target;
 #[cfg(test)]

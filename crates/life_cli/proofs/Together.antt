@@ -14,7 +14,7 @@ use Rattle.book_parts.specs.declared.book.RawBook.{RawBook}
 use Rattle.book_text.specs.Book.{Said, IsBook}
 use Rattle.life_cli.specs.declared.status.Which.TheVariants.{Book, Target, Pattern}
 use Rattle.life_cli.specs.declared.status.Status.{Status}
-use Rattle.life_cli.specs.declared.status.Status.TheVariants.{ReadFault, TooLong, BadRle, BadBookText, BadBook, NoPlan, StreamLong, Memory, NotYet}
+use Rattle.life_cli.specs.declared.status.Status.TheVariants.{ReadFault, TooLong, BadRle, BadBookText, BadTarget, BadBook, NoPlan, StreamLong, Memory, NotYet}
 use Rattle.life_cli.specs.Compiled.{IsAnswer, AnswersBook}
 use Rattle.life_cells.specs.Firsts.{IsFirstLive}
 use Rattle.life_cli.specs.Causes.{HoldsBook, HoldsPattern, BookReadingIsRefused, PatternReadingIsRefused, TargetIsRefused, TargetReadingIsRefused, BuildingIsRefused, CompilingIsRefused}
@@ -32,12 +32,16 @@ book_refuses told book target before now other r = absurd r
 -- the target is refused as it was read
 pub target_tested : (told : Option (List HeldText)) (name : List ℕ) (before now : ℕ) (s : Plane) (status : Status) → IfSome told (λ texts. HoldsPattern texts name s) → TargetIsRefused s status →
     TargetReadingIsRefused told name before now status
+target_tested None name before now s (BadTarget e) k r = tt
+target_tested (Some texts) name before now s (BadTarget e) k r = (s, (k, r))
+target_tested told name before now s Memory k r = tt
 target_tested None name before now s (NotYet cell) k r = tt
 target_tested (Some texts) name before now s (NotYet cell) k r = (s, (k, r))
 target_tested told name before now s other k r = absurd r
 
 -- the target's text is refused
 pub target_unread : (told : Option (List HeldText)) (name : List ℕ) (before now : ℕ) (status : Status) → PatternReadingIsRefused told name Target before now status → TargetReadingIsRefused told name before now status
+target_unread told name before now (BadTarget e) r = absurd r
 target_unread told name before now (NotYet cell) r = absurd r
 target_unread told name before now other r = r
 
@@ -51,6 +55,8 @@ target_refuses told book target before now said (TooLong Book) h r = cc
 target_refuses told book target before now said (TooLong Pattern) h r = cc
 target_refuses None book target before now said (BadRle which e) h r = (r.0, (r.1.0, tt))
 target_refuses (Some texts) book target before now said (BadRle which e) h r = (r.0, (r.1.0, (said, (h, r.1.1))))
+target_refuses None book target before now said (BadTarget e) h r = tt
+target_refuses (Some texts) book target before now said (BadTarget e) h r = (said, (h, r))
 target_refuses None book target before now said (NotYet cell) h r = tt
 target_refuses (Some texts) book target before now said (NotYet cell) h r = (said, (h, r))
 target_refuses told book target before now said Memory h r = tt

@@ -14,6 +14,8 @@ use Rattle.life_rle.specs.declared.error.RleError as rle
 use Rattle.book_text.specs.Book.{Said, StopsWith}
 use Rattle.book_text.specs.declared.error.BookError as book
 use Rattle.book_parts.specs.declared.turn.RawTurn.{RawTurn}
+use Rattle.build_plan.specs.Targets as targets
+use Rattle.build_plan.specs.declared.refusal.TargetError as target
 use Rattle.recipe_book.specs.Entries.{AreTheSound}
 use Rattle.recipe_book.specs.Refusals.{BookIsRefused}
 use Rattle.recipe_book.specs.declared.refusal.BookRefusal as check
@@ -23,7 +25,7 @@ use Rattle.life_cli.specs.Book.{ReadsAsBook}
 use Rattle.life_cli.specs.declared.status.Which.{Which}
 use Rattle.life_cli.specs.declared.status.Which.TheVariants.{Book, Target, Pattern}
 use Rattle.life_cli.specs.declared.status.Status.{Status}
-use Rattle.life_cli.specs.declared.status.Status.TheVariants.{ReadFault, TooLong, BadRle, BadBookText, BadBook, NoPlan, StreamLong, WriteFault, Memory, NotYet}
+use Rattle.life_cli.specs.declared.status.Status.TheVariants.{ReadFault, TooLong, BadRle, BadBookText, BadTarget, BadBook, NoPlan, StreamLong, WriteFault, Memory, NotYet}
 
 -- the text of this name, with at most 2^24 bytes
 pub record IsHeld (texts : List HeldText) (name text : List ℕ) : Type 0 where
@@ -69,9 +71,11 @@ PatternTextIsRefused text which (BadRle other e) = (other ≡ which) × ((e ≢ 
 PatternTextIsRefused text which Memory = Unit {0}
 PatternTextIsRefused text which other = ⊥
 
--- a target is refused so: one with a live cell is not compiled yet
+-- a target is refused so: it fails its tests, or it passes them and has a live cell, for such targets are not compiled yet
 abbrev pub TargetIsRefused : Plane → Status → Type 0
-TargetIsRefused s (NotYet cell) = IsFirstLive s cell
+TargetIsRefused s (BadTarget e) = (e ≢ target.TheVariants.Memory) × targets.TargetIsRefused s e
+TargetIsRefused s (NotYet cell) = targets.IsTarget s × IsFirstLive s cell
+TargetIsRefused s Memory = Unit {0}
 TargetIsRefused s other = ⊥
 
 -- the test of a book is refused so
@@ -109,7 +113,8 @@ PatternReadingIsRefused told name which before now other = ⊥
 
 -- fetching and reading the target, and its test, are refused so
 abbrev pub TargetReadingIsRefused : Option (List HeldText) → List ℕ → ℕ → ℕ → Status → Type 0
-TargetReadingIsRefused told name before now (NotYet cell) = IfSome told (λ texts. (s : Plane) × (HoldsPattern texts name s × IsFirstLive s cell))
+TargetReadingIsRefused told name before now (BadTarget e) = IfSome told (λ texts. (s : Plane) × (HoldsPattern texts name s × TargetIsRefused s (BadTarget e)))
+TargetReadingIsRefused told name before now (NotYet cell) = IfSome told (λ texts. (s : Plane) × (HoldsPattern texts name s × TargetIsRefused s (NotYet cell)))
 TargetReadingIsRefused told name before now other = PatternReadingIsRefused told name Target before now other
 
 -- the tests of a book and the plan over its sound turns are refused so
@@ -131,8 +136,10 @@ CompilingIsRefused told book_name target_name before now (BadBookText e) =
 CompilingIsRefused told book_name target_name before now (BadRle which e) =
     (which ≡ Target) × ((e ≢ rle.TheVariants.Memory) × IfSome told (λ texts. (said : Said) × (HoldsBook texts book_name said
     × ((text : List ℕ) × (IsHeld texts target_name text × TextStopsWith text e)))))
+CompilingIsRefused told book_name target_name before now (BadTarget e) =
+    IfSome told (λ texts. (said : Said) × (HoldsBook texts book_name said × ((s : Plane) × (HoldsPattern texts target_name s × TargetIsRefused s (BadTarget e)))))
 CompilingIsRefused told book_name target_name before now (NotYet cell) =
-    IfSome told (λ texts. (said : Said) × (HoldsBook texts book_name said × ((s : Plane) × (HoldsPattern texts target_name s × IsFirstLive s cell))))
+    IfSome told (λ texts. (said : Said) × (HoldsBook texts book_name said × ((s : Plane) × (HoldsPattern texts target_name s × TargetIsRefused s (NotYet cell)))))
 CompilingIsRefused told book_name target_name before now (BadBook e) =
     IfSome told (λ texts. (said : Said) × (HoldsBook texts book_name said × (HoldsPattern texts target_name nothing × BuildingIsRefused said (BadBook e))))
 CompilingIsRefused told book_name target_name before now (NoPlan e) =

@@ -13,10 +13,11 @@ use Rattle.book_text.specs.declared.error.BookWord as setting
 use Rattle.life_cli.specs.declared.words.WordsError as words
 use Rattle.life_cli.specs.declared.status.Which.{Which}
 use Rattle.life_cli.specs.declared.status.Which.TheVariants.{Book, Target, Pattern}
+use Rattle.build_plan.specs.declared.refusal.TargetError as target
 use Rattle.recipe_book.specs.declared.refusal.BookRefusal as check
 use Rattle.stream_time.specs.declared.building.PlanError as plan
 use Rattle.life_cli.specs.declared.status.Status.{Status}
-use Rattle.life_cli.specs.declared.status.Status.TheVariants.{Done, Words, ReadFault, TooLong, BadRle, BadBookText, BadBook, NoPlan, StreamLong, WriteFault, Memory, NotYet}
+use Rattle.life_cli.specs.declared.status.Status.TheVariants.{Done, Words, ReadFault, TooLong, BadRle, BadBookText, BadTarget, BadBook, NoPlan, StreamLong, WriteFault, Memory, NotYet}
 
 abbrev pub which_text : Which → List ℕ
 which_text Book = codes "book"
@@ -79,6 +80,13 @@ book_text (book.TheVariants.WallReach wall reach) = codes "reach " ++ (signed_de
 book_text (book.TheVariants.NotYet line) = codes "not yet " ++ decimal line
 book_text book.TheVariants.Memory = codes "memory"
 
+-- why a target is refused; the last is no text of a status
+abbrev pub target_text : target.TargetError → List ℕ
+target_text (target.TheVariants.TooWide side) = codes "wide " ++ decimal side
+target_text (target.TheVariants.NotStill cell) = codes "moves " ++ cell_text cell
+target_text (target.TheVariants.TooManyIslands count) = codes "islands " ++ decimal count
+target_text target.TheVariants.Memory = codes "memory"
+
 -- why a book is refused; the last is no text of a status
 abbrev pub refusal_text : check.BookRefusal → List ℕ
 refusal_text (check.TheVariants.KindPlace kind cell) = codes "kind " ++ (decimal kind ++ (codes " place " ++ cell_text cell))
@@ -101,6 +109,7 @@ status_text ReadFault = codes "read fault"
 status_text (TooLong which) = which_text which ++ codes " too long"
 status_text (BadRle which e) = which_text which ++ (codes " " ++ rle_text e)
 status_text (BadBookText e) = codes "book " ++ book_text e
+status_text (BadTarget e) = codes "target " ++ target_text e
 status_text (BadBook e) = refusal_text e
 status_text (NoPlan e) = plan_text e
 status_text (StreamLong count) = codes "stream long " ++ decimal count

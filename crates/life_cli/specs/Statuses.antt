@@ -1,7 +1,7 @@
 -- The numbers of the statuses.
 use Rattle.std.specs.Prelude.{ℕ}
 use Rattle.life_cli.specs.declared.status.Status.{Status}
-use Rattle.life_cli.specs.declared.status.Status.TheVariants.{Done, Words, ReadFault, TooLong, BadRle, BadBookText, BadBook, NoPlan, StreamLong, WriteFault, Memory, NotYet}
+use Rattle.life_cli.specs.declared.status.Status.TheVariants.{Done, Words, ReadFault, TooLong, BadRle, BadBookText, BadTarget, BadBook, NoPlan, StreamLong, WriteFault, Memory, NotYet}
 
 abbrev pub number_of : Status → ℕ
 number_of Done = 0
@@ -10,6 +10,7 @@ number_of ReadFault = 2
 number_of (TooLong which) = 3
 number_of (BadRle which fault) = 4
 number_of (BadBookText e) = 4
+number_of (BadTarget e) = 5
 number_of (BadBook e) = 6
 number_of (NoPlan e) = 7
 number_of (StreamLong count) = 8

@@ -1,8 +1,10 @@
 //! The command `compile`.
 
-ghost use Rattle.std.specs.Prelude.{◌≡◌, ◌≢◌, ◌≤◌, IfOk, IfErr, IfSome};
+ghost use Rattle.std.specs.Prelude.{◌≡◌, ◌≢◌, ◌≤◌, ◌^◌, IfOk, IfErr, IfSome};
 ghost use Rattle.life_plane.specs.Plane.{nothing};
 ghost use Rattle.life_cells.specs.Cells.{alive};
+ghost use Rattle.life_cells.specs.Boxes.{IsInRange};
+ghost use Rattle.build_plan.specs.Targets.{IsTarget};
 ghost use Rattle.life_io.specs.Counts.{IsLaterCount};
 ghost use Rattle.life_io.specs.Texts.{Holds};
 ghost use Rattle.book_text.specs.Book.{Said, IsBook};
@@ -17,6 +19,7 @@ use crate::inputs::{fetch_book, fetch_pattern};
 use crate::status::{Status, Which};
 use crate::writing::text_of_built;
 use book_parts::RawBook;
+use build_plan::{Target, TargetError};
 use life_cells::{CellSet, NoMemory};
 use life_io::Depot;
 use life_steps::Steps;
@@ -25,19 +28,50 @@ use std::alloc::Global;
 use std::sync::ledger::Ledger;
 use stream_time::{Built, PlanError, compile as build};
 
-// Refuses a target with a live cell.
-fn check_target(alloc: Global, target: &CellSet) -> Result<(), Status>
-    ensures empty { IfOk result (λ _. alive target.now ≡ nothing) }
-    ensures err { IfErr result (λ status. TargetIsRefused (alive target.now) status) }
+// Refuses a set of cells that is no target.
+fn target_of<L: Ledger>(
+    alloc: Global,
+    cells: CellSet,
+    steps: &mut Steps<L>,
+) -> Result<Target, Status>
+    requires { IsInRange (2 ^ 40) (alive cells) }
+    ensures same { IfOk result (λ target. target ≡ cells) }
+    ensures target { IfOk result (λ target. IsTarget (alive cells)) }
+    ensures err { IfErr result (λ status. TargetIsRefused (alive cells) status) }
+    ensures steps { steps.old ≤ steps.new }
 {
-    match target.first_difference(&CellSet::empty(alloc)) {
+    match Target::new(alloc, cells, steps) {
+        Ok(target) => Ok(target),
+        Err((_, TargetError::Memory)) => Err(Status::Memory),
+        Err((_, refusal)) => Err(Status::BadTarget(refusal)),
+    }
+}
+
+// Refuses what is no target, and a target with a live cell.
+fn check_target<L: Ledger>(
+    alloc: Global,
+    cells: CellSet,
+    steps: &mut Steps<L>,
+) -> Result<(), Status>
+    requires { IsInRange (2 ^ 40) (alive cells) }
+    ensures empty { IfOk result (λ _. alive cells ≡ nothing) }
+    ensures err { IfErr result (λ status. TargetIsRefused (alive cells) status) }
+    ensures steps { steps.old ≤ steps.new }
+{
+    let target = target_of(alloc, cells, steps)?;
+    match target.cells().first_difference(&CellSet::empty(alloc)) {
         None => Ok(()),
         Some(cell) => Err(Status::NotYet { cell }),
     }
 }
 
-// Fetches the target, and refuses one with a live cell.
-fn fetch_target<D: Depot>(alloc: Global, depot: &mut D, name: &str) -> Result<(), Status>
+// Fetches the target, and refuses what is none, and one with a live cell.
+fn fetch_target<D: Depot, L: Ledger>(
+    alloc: Global,
+    depot: &mut D,
+    name: &str,
+    steps: &mut Steps<L>,
+) -> Result<(), Status>
     ensures ok { IfOk result (λ _. IfSome (D.texts depot.old) (λ texts. HoldsPattern texts name.now nothing)) }
     ensures err { IfErr result (λ status. TargetReadingIsRefused (D.texts depot.old) name.now (D.faults depot.old) (D.faults depot.new) status) }
     ensures texts_stay { D.texts depot.new ≡ D.texts depot.old }
@@ -45,9 +79,10 @@ fn fetch_target<D: Depot>(alloc: Global, depot: &mut D, name: &str) -> Result<()
     ensures no_fault { result ≢ Err Status.ReadFault → D.faults depot.new ≡ D.faults depot.old }
     ensures quiet_stays { D.quiet depot.old → D.quiet depot.new }
     ensures quiet_serves { D.quiet depot.old → Holds (D.texts depot.old) name.now → result ≢ Err Status.ReadFault }
+    ensures steps { steps.old ≤ steps.new }
 {
     match fetch_pattern(alloc, depot, name, Which::Target) {
-        Ok(target) => check_target(alloc, &target.cells),
+        Ok(target) => check_target(alloc, target.cells, steps),
         Err(status) => Err(status),
     }
 }
@@ -132,7 +167,7 @@ pub(crate) fn compile<D: Depot, L: Ledger>(
     ensures steps { steps.old ≤ steps.new }
 {
     let book = fetch_book(alloc, depot, book_name)?;
-    match fetch_target(alloc, depot, target_name) {
+    match fetch_target(alloc, depot, target_name, steps) {
         Ok(()) => answer_of(alloc, book, steps),
         Err(status) => Err(status),
     }

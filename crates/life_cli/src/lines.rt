@@ -2,11 +2,12 @@
 
 ghost use Rattle.std.specs.Prelude.{◌≡◌, IfOk};
 ghost use Rattle.std.specs.String.{string_bytes};
-ghost use Rattle.life_cli.specs.ErrorLines.{which_text, words_text, rle_text, fault_text, setting_text, book_text, refusal_text, plan_text, status_text, error_line};
+ghost use Rattle.life_cli.specs.ErrorLines.{which_text, words_text, rle_text, fault_text, setting_text, book_text, target_text, refusal_text, plan_text, status_text, error_line};
 
 use crate::status::{Status, Which};
 use crate::words::WordsError;
 use book_text::{BookError, BookWord, LineFault};
+use build_plan::TargetError;
 use life_rle::RleError;
 use recipe_book::BookRefusal;
 use std::alloc::{AllocError, Global};
@@ -103,6 +104,20 @@ fn book_text(alloc: Global, fault: BookError) -> Result<String, AllocError>
     }
 }
 
+fn target_text(alloc: Global, refusal: TargetError) -> Result<String, AllocError>
+    ensures { IfOk result (λ text. string_bytes text ≡ target_text refusal) }
+{
+    match refusal {
+        TargetError::TooWide { side } => format!(in alloc; "wide {side}"),
+        TargetError::NotStill { cell } => {
+            let (x, y) = (cell.x, cell.y);
+            format!(in alloc; "moves {x} {y}")
+        }
+        TargetError::TooManyIslands { count } => format!(in alloc; "islands {count}"),
+        TargetError::Memory => String::from_str(alloc, "memory"),
+    }
+}
+
 fn refusal_text(alloc: Global, refusal: BookRefusal) -> Result<String, AllocError>
     ensures { IfOk result (λ text. string_bytes text ≡ refusal_text refusal) }
 {
@@ -154,6 +169,10 @@ fn status_text(alloc: Global, status: Status) -> Result<String, AllocError>
         Status::BadBookText(fault) => {
             let fault = book_text(alloc, fault)?;
             format!(in alloc; "book {fault}")
+        }
+        Status::BadTarget(refusal) => {
+            let refusal = target_text(alloc, refusal)?;
+            format!(in alloc; "target {refusal}")
         }
         Status::BadBook(refusal) => refusal_text(alloc, refusal),
         Status::NoPlan(stop) => plan_text(alloc, stop),

@@ -8,6 +8,7 @@ ghost use Rattle.life_cli.specs.Words.{AreRefused};
 ghost use Rattle.life_cli.specs.Run.{Ends, NamesAreHeld, GainsAnswer, GainsPart, HasNoAnswer};
 ghost use Rattle.life_cli.specs.declared.words.WordsError.{WordsError};
 ghost use Rattle.life_cli.specs.declared.status.Which.{Which};
+ghost use Rattle.build_plan.specs.declared.refusal.TargetError.{TargetError};
 ghost use Rattle.recipe_book.specs.declared.refusal.BookRefusal.{BookRefusal};
 ghost use Rattle.stream_time.specs.declared.building.PlanError.{PlanError};
 ghost use Rattle.life_cells.specs.declared.cell.Cell.{Cell};
@@ -22,6 +23,7 @@ use crate::requests::answer;
 use crate::status::Status;
 use crate::words::read_words;
 use book_text::laws::{books_have_no_refusal, texts_say_one_book};
+use build_plan::laws::targets_have_no_refusal;
 use life_io::{Depot, PutError, Sink};
 use life_rle::laws::{fine_texts_have_no_refusal, texts_mean_one_plane};
 use life_steps::Steps;
@@ -165,6 +167,8 @@ pub fn life_run<D: Depot, O: Sink, E: Sink, L: Ledger>(
         HasNoAnswer words.now (D.texts depot.old) (D.faults depot.old) (D.faults depot.new) (Status.BadBookText e) }
     ensures bad_rle { (which : Which) (e : RleError) → result ≡ Status.BadRle which e →
         HasNoAnswer words.now (D.texts depot.old) (D.faults depot.old) (D.faults depot.new) (Status.BadRle which e) }
+    ensures bad_target { (e : TargetError) → result ≡ Status.BadTarget e →
+        HasNoAnswer words.now (D.texts depot.old) (D.faults depot.old) (D.faults depot.new) (Status.BadTarget e) }
     ensures bad_book { (e : BookRefusal) → result ≡ Status.BadBook e →
         HasNoAnswer words.now (D.texts depot.old) (D.faults depot.old) (D.faults depot.new) (Status.BadBook e) }
     ensures no_plan { (e : PlanError) → result ≡ Status.NoPlan e →
@@ -198,6 +202,7 @@ pub fn life_run<D: Depot, O: Sink, E: Sink, L: Ledger>(
     books_have_no_refusal();
     fine_texts_have_no_refusal();
     texts_mean_one_plane();
+    targets_have_no_refusal();
     sound_turns_are_one();
     taken_books_have_no_refusal();
     run_and_report(alloc, words, depot, out, err, steps)

@@ -5,6 +5,7 @@ ghost use Rattle.life_cli.specs.Statuses.{number_of};
 
 use crate::words::WordsError;
 use book_text::BookError;
+use build_plan::TargetError;
 use life_cells::Cell;
 use life_rle::RleError;
 use recipe_book::BookRefusal;
@@ -41,6 +42,8 @@ pub enum Status {
     },
     /// The book's text is not read.
     BadBookText(BookError),
+    /// The target is refused.
+    BadTarget(TargetError),
     /// The book is refused.
     BadBook(BookRefusal),
     /// No plan was found.
@@ -72,6 +75,7 @@ impl Status {
             Status::ReadFault => 2,
             Status::TooLong { .. } => 3,
             Status::BadRle { .. } | Status::BadBookText(_) => 4,
+            Status::BadTarget(_) => 5,
             Status::BadBook(_) => 6,
             Status::NoPlan(_) => 7,
             Status::StreamLong { .. } => 8,
