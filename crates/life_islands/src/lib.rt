@@ -4,10 +4,14 @@
 
 mod equality;
 pub mod island;
+pub mod laws;
 pub mod parting;
 mod rank;
+mod search;
 pub mod shape;
 pub mod shaping;
+#[cfg(test)]
+mod tests;
 
 pub use island::Island;
 pub use parting::{is_one_island, islands};
