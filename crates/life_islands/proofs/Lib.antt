@@ -2,3 +2,4 @@
 pub mod Adding
 pub mod Flooding
 pub mod Rows
+pub mod Ranking
