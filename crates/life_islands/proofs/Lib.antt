@@ -3,3 +3,5 @@ pub mod Adding
 pub mod Flooding
 pub mod Rows
 pub mod Ranking
+pub mod Noting
+pub mod Listing

@@ -132,7 +132,7 @@ island_still s t still h = same_plane (step t) t (λ x y. by x y (true_or_false 
 -- ---- lists of islands
 
 -- the noted islands of a plane that share a cell are one
-same_noted : (s : Plane) (a b : Island) (c : Cell) → IsNoted s a → IsNoted s b → Lives (alive a.cells) c → Lives (alive b.cells) c → a ≡ b
+pub same_noted : (s : Plane) (a b : Island) (c : Cell) → IsNoted s a → IsNoted s b → Lives (alive a.cells) c → Lives (alive b.cells) c → a ≡ b
 same_noted s a b c h k in_a in_b =
     let planes : alive a.cells ≡ alive b.cells = sharing_islands s (alive a.cells) (alive b.cells) h.is k.is c in_a in_b in
     let cells : a.cells ≡ b.cells = same_cells a.cells b.cells planes in
