@@ -5,3 +5,4 @@ pub mod Rows
 pub mod Ranking
 pub mod Noting
 pub mod Listing
+pub mod Cornering
