@@ -1,6 +1,6 @@
 -- The list of islands, from those that are noted under their ranks.
-use Rattle.std.proofs.Common.{◌≡◌, ◌⊎◌, ℕ, zero, suc, List, [], ◌∷◌, ◌++◌, map, length, refl, sym, ap, subst, ◌∙◌, arith, inl, inr}
-use Rattle.std.specs.Prelude.{ℤ, neg_ℤ, ◌<ℤ◌}
+use Rattle.std.proofs.Common.{◌≡◌, ◌⊎◌, ℕ, List, [], ◌∷◌, ◌++◌, map, length, refl, sym, ap, subst, ◌∙◌, arith, inl, inr}
+use Rattle.std.specs.Prelude.{neg_ℤ, ◌<ℤ◌}
 use Rattle.std.specs.List.{AllByRecursion}
 use Rattle.std.specs.List.Sorted.{IsStrictlySortedBy}
 use Rattle.std.specs.Ordering.{int_cmp, ordering_then}
@@ -9,7 +9,6 @@ use Rattle.std.specs.declared.cmp.Ordering.TheVariants.{Less, Equal, Greater}
 use Rattle.std.specs.Cmp.{int_ranked}
 use Rattle.std.proofs.lemmas.Int.{ints}
 use Rattle.std.proofs.lemmas.Map.Keys.{sorted_head, sorted_tail}
-use Rattle.std.proofs.lemmas.List.{append_assoc}
 use Rattle.life_cells.specs.Boxes.{IsInRange}
 use Rattle.life_cells.specs.Cells.{Cells, cell_cmp, alive, in_order}
 use Rattle.life_cells.specs.Laws.{alive-in_order}
@@ -24,7 +23,7 @@ use Rattle.life_islands.specs.Ranks.{IsRanked, IsUnderOne, AreRanked}
 use Rattle.life_islands.specs.declared.island.Island.{Island}
 use Rattle.life_islands.specs.declared.rank.Rank.{Rank}
 use Rattle.life_islands.proofs.Noting.{rank_cmp}
-use Rattle.life_plane.specs.Plane.{Plane, same_plane}
+use Rattle.life_plane.specs.Plane.{Plane}
 
 -- the island under a rank
 abbrev pub noted : Rank × Cells → Island

@@ -1,5 +1,5 @@
 -- Islands that are noted under their ranks.
-use Rattle.std.proofs.Common.{◌≡◌, ◌⊎◌, ℕ, ◌+◌, ◌<◌, ◌≤◌, Bool, true, false, List, [], ◌∷◌, ◌++◌, length, get_or, Some, refl, sym, ap, subst, ◌∙◌, arith, inl, inr, ◌^◌}
+use Rattle.std.proofs.Common.{◌≡◌, ◌⊎◌, ℕ, ◌+◌, ◌<◌, ◌≤◌, Bool, true, false, List, [], ◌∷◌, length, get_or, Some, refl, sym, ap, subst, ◌∙◌, arith, inl, inr}
 use Rattle.std.specs.BTreeMap.{insert_entry}
 use Rattle.std.specs.List.{AllByRecursion, slice_get, list_any}
 use Rattle.std.specs.Ordering.{int_cmp, ordering_then, match_ordering}
@@ -7,7 +7,7 @@ use Rattle.std.specs.Prelude.{ℤ}
 use Rattle.std.specs.declared.cmp.Ordering.{Ordering}
 use Rattle.std.specs.declared.cmp.Ordering.TheVariants.{Less, Equal, Greater}
 use Rattle.std.specs.Cmp.{int_ranked}
-use Rattle.std.proofs.lemmas.Option.{slice_get_within, slice_get-get_or}
+use Rattle.std.proofs.lemmas.Option.{slice_get_within}
 use Rattle.life_cells.specs.Boxes.{IsInRange}
 use Rattle.life_cells.specs.Cells.{Cells, cell, cell_cmp, alive, from_list}
 use Rattle.life_cells.specs.Laws.{alive-from_list, place_of_listed}
@@ -17,12 +17,12 @@ use Rattle.life_cells.specs.Same.{same_fields}
 use Rattle.life_cells.specs.declared.cell.Cell.{Cell}
 use Rattle.life_islands.specs.Islands.{IsIsland}
 use Rattle.life_islands.specs.IslandLaws.{sharing_islands}
-use Rattle.life_islands.specs.Joined.{Lives, AreJoined}
+use Rattle.life_islands.specs.Joined.{Lives}
 use Rattle.life_islands.specs.JoinedLaws.{joined_itself, joined_on, joined_back, joined_lives}
 use Rattle.life_islands.specs.Ranks.{IsRankOf, IsRanked, IsUnderOne, AreRanked, AddsIsland}
 use Rattle.life_islands.specs.Search.{Adds, AreAllJoined}
 use Rattle.life_islands.specs.declared.rank.Rank.{Rank}
-use Rattle.life_islands.proofs.Adding.{known_is_listed, IsBefore, listed_left, listed_right, listed_cases, listed_one, only_one, all_listed, lt_or_same, same_item}
+use Rattle.life_islands.proofs.Adding.{known_is_listed, IsBefore, listed_right, listed_cases, only_one, all_listed, lt_or_same, same_item}
 use Rattle.life_plane.specs.Plane.{Plane, same_plane}
 
 -- ---- the order of ranks

@@ -3,13 +3,13 @@ use Rattle.std.specs.Prelude.{◌≡◌, ◌⊎◌, Bool, true, false, ◌||◌,
 use Rattle.std.proofs.Common.{refl, sym, ap, subst, ◌∙◌, arith, inl, inr}
 use Rattle.std.proofs.lemmas.Int.{ints}
 use Rattle.std.specs.List.{AllByRecursion}
-use Rattle.life_cells.specs.Cells.{Cells, cell, alive}
+use Rattle.life_cells.specs.Cells.{cell, alive}
 use Rattle.life_cells.specs.Laws.{same_cells}
 use Rattle.life_cells.specs.declared.cell.Cell.{Cell}
 use Rattle.life_islands.specs.declared.island.Island.{Island}
 use Rattle.life_islands.specs.Islands.{IsIsland, IsNoted, IsInOne, AreIslands, rest_of}
-use Rattle.life_islands.specs.Joined.{Lives, Steps, AreJoined}
-use Rattle.life_islands.specs.JoinedLaws.{joined_on, joined_back, joined_step}
+use Rattle.life_islands.specs.Joined.{Lives}
+use Rattle.life_islands.specs.JoinedLaws.{joined_step}
 use Rattle.life_islands.specs.Order.{IsFirstCell, ComesBefore, AreInOrder}
 use Rattle.life_islands.specs.OrderLaws.{one_first_cell, one_comes_before, not_before_itself}
 use Rattle.life_plane.specs.Plane.{Plane, step, union, IsStill, same_plane}

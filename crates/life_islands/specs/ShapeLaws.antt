@@ -1,8 +1,8 @@
 -- The laws of shapes.
-use Rattle.std.specs.Prelude.{◌≡◌, true, ℤ, pos, neg_ℤ, ◌+ℤ◌, ◌-ℤ◌, ◌≤ℤ◌}
+use Rattle.std.specs.Prelude.{◌≡◌, ℤ, pos, neg_ℤ, ◌+ℤ◌, ◌-ℤ◌}
 use Rattle.std.proofs.Common.{refl, sym, ap, subst, ◌∙◌, arith}
 use Rattle.std.proofs.lemmas.Int.{ints}
-use Rattle.life_cells.specs.Boxes.{InBox, Holds, IsWithin, IsLeastBox}
+use Rattle.life_cells.specs.Boxes.{Holds, IsLeastBox}
 use Rattle.life_cells.specs.BoxLaws.{one_least_box}
 use Rattle.life_cells.specs.Cells.{cell}
 use Rattle.life_cells.specs.declared.bounds.Bounds.{Bounds}

@@ -1,10 +1,9 @@
-use Rattle.std.proofs.Common.{◌≡◌, List, ◌∷◌, ◌∙◌, ap, sym, subst, ◌^◌}
+use Rattle.std.proofs.Common.{◌∷◌, ◌∙◌, ap, sym, subst, ◌^◌}
 use Rattle.life_cells.specs.Boxes.{IsInRange}
 use Rattle.life_cells.specs.Cells.{from_list}
 use Rattle.life_cells.specs.Listed.{listed}
-use Rattle.life_cells.specs.declared.cell.Cell.{Cell}
 use Rattle.life_islands.specs.Joined.{Lives}
-use Rattle.life_islands.specs.Ranks.{IsRankOf, IsRanked}
+use Rattle.life_islands.specs.Ranks.{IsRankOf}
 use Rattle.life_islands.specs.Search.{Adds}
 use Rattle.life_islands.proofs.Noting.{found_in_range, found_ranked, adds_island, ranked_more}
 use Rattle.life_islands.proofs.parting.add_island.Goals as goal

@@ -1,7 +1,3 @@
-use Rattle.std.proofs.Common.{subst, sym, ◌^◌}
-use Rattle.life_cells.specs.Boxes.{IsInRange}
-use Rattle.life_cells.specs.Laws.{alive-in_order}
-use Rattle.life_cells.specs.Listed.{listed}
 use Rattle.life_islands.proofs.Listing.{in_order_range, islands_of_set}
 use Rattle.life_islands.proofs.parting.islands.Goals as goal
 

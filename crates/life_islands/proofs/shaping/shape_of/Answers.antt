@@ -1,4 +1,4 @@
-use Rattle.std.proofs.Common.{subst, sym, ap, ◌∙◌}
+use Rattle.std.proofs.Common.{subst, sym}
 use Rattle.life_cells.specs.Cells.{alive}
 use Rattle.life_islands.specs.Shapes.{IsShapeOf}
 use Rattle.life_islands.proofs.Cornering.{corner_small, corner_top_left, negated_fits, moves_back, shape_found}

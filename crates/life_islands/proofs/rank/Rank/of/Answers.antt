@@ -1,4 +1,4 @@
-use Rattle.std.proofs.Common.{List, arith, take, ◌∷◌}
+use Rattle.std.proofs.Common.{arith, take, ◌∷◌}
 use Rattle.std.specs.Prelude.{pos}
 use Rattle.life_cells.specs.Cells.{cell}
 use Rattle.life_cells.specs.Listed.{listed}
