@@ -3,13 +3,13 @@ use Rattle.std.specs.Prelude.{◌≡◌, ◌⊎◌, Bool, true, false, ◌||◌,
 use Rattle.std.proofs.Common.{refl, sym, ap, subst, ◌∙◌, arith, inl, inr}
 use Rattle.std.proofs.lemmas.Int.{ints}
 use Rattle.std.specs.List.{AllByRecursion}
-use Rattle.life_cells.specs.Cells.{Cells, cell, alive}
+use Rattle.life_cells.specs.Cells.{cell, alive}
 use Rattle.life_cells.specs.Laws.{same_cells}
 use Rattle.life_cells.specs.declared.cell.Cell.{Cell}
 use Rattle.life_islands.specs.declared.island.Island.{Island}
 use Rattle.life_islands.specs.Islands.{IsIsland, IsNoted, IsInOne, AreIslands, rest_of}
-use Rattle.life_islands.specs.Joined.{Lives, Steps, AreJoined}
-use Rattle.life_islands.specs.JoinedLaws.{joined_on, joined_back, joined_step}
+use Rattle.life_islands.specs.Joined.{Lives}
+use Rattle.life_islands.specs.JoinedLaws.{joined_step}
 use Rattle.life_islands.specs.Order.{IsFirstCell, ComesBefore, AreInOrder}
 use Rattle.life_islands.specs.OrderLaws.{one_first_cell, one_comes_before, not_before_itself}
 use Rattle.life_plane.specs.Plane.{Plane, step, union, IsStill, same_plane}
@@ -132,14 +132,15 @@ island_still s t still h = same_plane (step t) t (λ x y. by x y (true_or_false 
 -- ---- lists of islands
 
 -- the noted islands of a plane that share a cell are one
-same_noted : (s : Plane) (a b : Island) (c : Cell) → IsNoted s a → IsNoted s b → Lives (alive a.cells) c → Lives (alive b.cells) c → a ≡ b
+pub same_noted : (s : Plane) (a b : Island) (c : Cell) → IsNoted s a → IsNoted s b → Lives (alive a.cells) c → Lives (alive b.cells) c → a ≡ b
 same_noted s a b c h k in_a in_b =
     let planes : alive a.cells ≡ alive b.cells = sharing_islands s (alive a.cells) (alive b.cells) h.is k.is c in_a in_b in
     let cells : a.cells ≡ b.cells = same_cells a.cells b.cells planes in
     let first : a.first ≡ b.first = one_first_cell (alive b.cells) a.first b.first (subst (IsFirstCell a.first) planes h.first) k.first in
     λ i. record { cells = cells i; first = first i }
 
-abbrev IsAmong : List Island → Island → Type 0
+-- the island is one of these
+abbrev pub IsAmong : List Island → Island → Type 0
 IsAmong [] a = ⊥
 IsAmong (b ∷ islands) a = (b ≡ a) ⊎ IsAmong islands a
 
@@ -151,7 +152,7 @@ noted_among s a c (b ∷ islands) h lives each (inr there) = inr (noted_among s 
 all_among : (s : Plane) (a : Island) (islands : List Island) → IsNoted s a → AreIslands s islands → IsAmong islands a
 all_among s a islands h are = noted_among s a a.first islands h h.first.lives are.each (are.all a.first (h.is.within a.first h.first.lives))
 
-each_among : (P : Island → Type 0) (islands : List Island) (a : Island) → AllByRecursion P islands → IsAmong islands a → P a
+pub each_among : (P : Island → Type 0) (islands : List Island) (a : Island) → AllByRecursion P islands → IsAmong islands a → P a
 each_among P [] a each there = absurd there
 each_among P (b ∷ islands) a each (inl is) = subst P is each.0
 each_among P (b ∷ islands) a each (inr there) = each_among P islands a each.1 there

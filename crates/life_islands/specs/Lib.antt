@@ -3,8 +3,10 @@ pub mod Joined
 pub mod JoinedLaws
 pub mod Islands
 pub mod IslandLaws
+pub mod MovedIslands
 pub mod Order
 pub mod OrderLaws
 pub mod Shapes
+pub mod ShapeLaws
 pub mod Search
 pub mod Ranks

@@ -26,8 +26,8 @@ pub(crate) fn joined_with(
     let mut found = IndexSet::new(alloc);
     found.insert(start)?;
     let mut place = 0;
-    'cells: while let Some(here) = found.get_index(place) {
-        let here = *here;
+    'cells: while place < found.len() {
+        let here = found.as_slice()[place];
         add_steps(&mut found, cells, here)?;
         place += 1;
     }
@@ -45,16 +45,12 @@ fn add_steps(found: &mut IndexSet<Cell>, cells: &[Cell], here: Cell) -> Result<(
     add_row(found, cells, here, -1)?;
     add_row(found, cells, here, 0)?;
     add_row(found, cells, here, 1)?;
-    add_row(found, cells, here, 2)
+    add_row(found, cells, here, 2)?;
+    Ok(())
 }
 
 /// Adds the cells of the row dy below to which a step leads from this one.
-fn add_row(
-    found: &mut IndexSet<Cell>,
-    cells: &[Cell],
-    here: Cell,
-    dy: i64,
-) -> Result<(), NoMemory>
+fn add_row(found: &mut IndexSet<Cell>, cells: &[Cell], here: Cell, dy: i64) -> Result<(), NoMemory>
     requires rises { IsRising cells.now }
     requires range { IsInRange (2 ^ 60) (listed cells.now) }
     requires lives { Lives (listed cells.now) here }
@@ -65,7 +61,8 @@ fn add_row(
     let row = here.y + dy;
     let from = first_from(cells, Cell::new(here.x - 2, row));
     let to = first_from(cells, Cell::new(here.x + 3, row));
-    add_all(found, &cells[from..to])
+    add_all(found, &cells[from..to])?;
+    Ok(())
 }
 
 /// The place of the first cell that does not come before this one; the length where all do.
