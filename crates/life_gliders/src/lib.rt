@@ -3,6 +3,7 @@
 #![tactic(auto)]
 
 pub mod glider;
+pub mod laws;
 pub mod track;
 
 pub use glider::glider_cells;
