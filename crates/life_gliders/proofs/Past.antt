@@ -4,7 +4,7 @@ use Rattle.std.specs.Prelude.{◌&&◌, int_le}
 use Rattle.life_plane.specs.Plane.{Plane, nothing, same_plane}
 use Rattle.life_plane.specs.Finite.{both_true}
 use Rattle.life_cells.specs.declared.cell.Cell.{Cell}
-use Rattle.life_cells.specs.Cells.{cell, IsRising, Cells, alive, in_order}
+use Rattle.life_cells.specs.Cells.{IsRising, Cells, alive, in_order}
 use Rattle.life_cells.specs.Listed.{listed}
 use Rattle.life_gliders.specs.Beyond.{beyond, IsFirstLive, IsPartOf}
 use Rattle.life_gliders.proofs.Looking.{EachBefore, each_more, each_listed, listed_is_alive, place_lives, first_place}

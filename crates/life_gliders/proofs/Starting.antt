@@ -14,10 +14,9 @@ use Rattle.life_plane.specs.Salvo.{salvo_glider, salvo_front}
 use Rattle.life_cells.specs.declared.cell.Cell.{Cell}
 use Rattle.life_cells.specs.Cells.{cell, cell_cmp}
 use Rattle.life_cells.specs.Order.{before_by_row, before_in_row}
-use Rattle.life_gliders.specs.Beyond.{beyond, IsFirstLive}
-use Rattle.life_gliders.specs.Listing.{placed, cell_at_rest}
+use Rattle.life_gliders.specs.Beyond.{IsFirstLive}
+use Rattle.life_gliders.specs.Listing.{cell_at_rest}
 use Rattle.life_gliders.specs.Starts.{foot, StartsAt}
-use Rattle.life_gliders.specs.declared.track.Track.TheVariants.{Salvo}
 
 at_most : {a b : ℤ} → int_le a b ≡ true → a ≤ℤ b
 at_most h = record { le = subst T (sym h) tt }

@@ -40,7 +40,8 @@ fn place(track: Track, quarters: i64, rest: (u8, u8)) -> Cell
     }
 }
 
-// The five cells of the glider of index j on a track, however far its cells of 2^58 or less can put it.
+// The five cells of the glider of index j on a track. The index may be greater than in the public call:
+// that of a glider whose coordinates are within 2^58 can be a little past 2^60.
 pub(crate) fn cells_on(track: Track, j: i64) -> [Cell; 5]
     requires low { neg_ℤ (pos (2 ^ 61)) ≤ℤ j }
     requires high { j ≤ℤ pos (2 ^ 61) }

@@ -1,6 +1,6 @@
-use Rattle.std.proofs.Common.{◌≡◌, ℕ, ◌<◌, ℤ, ◌∙◌, ap, below_more, arith, w64, to_z, of_z}
+use Rattle.std.proofs.Common.{◌≡◌, ℕ, ℤ, ◌∙◌, ap, below_more, arith, w64, to_z, of_z}
 use Rattle.std.proofs.lemmas.Int.{ints, to_z-of_z}
-use Rattle.life_plane.specs.Plane.{Plane, nothing}
+use Rattle.life_plane.specs.Plane.{Plane}
 use Rattle.life_plane.specs.Salvo.{salvo_glider}
 use Rattle.life_cells.specs.Cells.{alive}
 use Rattle.life_gliders.specs.Beyond.{beyond}
