@@ -32,7 +32,7 @@ fn bounds(left: i8, top: i8, right: i8, bottom: i8) -> Bounds {
 }
 
 #[test]
-fn boxes_are_told_apart(rt: HostRuntime) {
+fn boxes_at_their_limits(rt: HostRuntime) {
     let block = bounds(0, 0, 1, 1);
     assert!(rt; box_apart(block, bounds(4, 0, 5, 1)));
     assert!(rt; !box_apart(block, bounds(3, 0, 4, 1)));
@@ -48,7 +48,7 @@ fn boxes_are_told_apart(rt: HostRuntime) {
 }
 
 #[test]
-fn strips_are_told_apart(rt: HostRuntime) -> Result<(), Fail> {
+fn strips_at_their_limits(rt: HostRuntime) -> Result<(), Fail> {
     let alloc = rt.alloc();
     assert!(rt; strip_apart(&set_of(alloc, &[(5, 0)])?, 0, 0));
     assert!(rt; !strip_apart(&set_of(alloc, &[(4, 0)])?, 0, 0));
@@ -60,7 +60,7 @@ fn strips_are_told_apart(rt: HostRuntime) -> Result<(), Fail> {
 }
 
 #[test]
-fn sides_are_told_apart(rt: HostRuntime) -> Result<(), Fail> {
+fn sides_at_their_limits(rt: HostRuntime) -> Result<(), Fail> {
     let alloc = rt.alloc();
     let origin = set_of(alloc, &[(0, 0)])?;
     let five = set_of(alloc, &[(5, 0)])?;

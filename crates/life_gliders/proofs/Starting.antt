@@ -16,7 +16,7 @@ use Rattle.life_cells.specs.Cells.{cell, cell_cmp}
 use Rattle.life_cells.specs.Order.{before_by_row, before_in_row}
 use Rattle.life_gliders.specs.Beyond.{IsFirstLive}
 use Rattle.life_gliders.specs.Listing.{cell_at_rest}
-use Rattle.life_gliders.specs.Starts.{foot, StartsAt}
+use Rattle.life_gliders.specs.Starts.{first_of_phase, StartsAt}
 
 at_most : {a b : ℤ} → int_le a b ≡ true → a ≤ℤ b
 at_most h = record { le = subst T (sym h) tt }
@@ -24,33 +24,33 @@ at_most h = record { le = subst T (sym h) tt }
 less : {a b : ℤ} → int_lt a b ≡ true → a <ℤ b
 less h = record { lt = subst T (sym h) tt }
 
--- ---- the foot of a phase
+-- ---- the lowest cell of a phase, and the leftmost of these
 
--- a cell of a phase is above its foot, or in the same row and not left of it
-abbrev is_past_foot : ℤ × ℤ → ℤ → ℤ → Bool
-is_past_foot f x y = int_lt y f.1 || (int_eq y f.1 && int_le f.0 x)
+-- a cell is above this one, or in the same row and not left of it
+abbrev is_after_first : ℤ × ℤ → ℤ → ℤ → Bool
+is_after_first f x y = int_lt y f.1 || (int_eq y f.1 && int_le f.0 x)
 
-past_foot : (n : ℕ) → each_cell (is_past_foot (foot n)) (phase n) ≡ true
-past_foot zero = refl
-past_foot (suc zero) = refl
-past_foot (suc (suc zero)) = refl
-past_foot (suc (suc (suc n))) = refl
+after_first : (n : ℕ) → each_cell (is_after_first (first_of_phase n)) (phase n) ≡ true
+after_first zero = refl
+after_first (suc zero) = refl
+after_first (suc (suc zero)) = refl
+after_first (suc (suc (suc n))) = refl
 
-foot_lives : (n : ℕ) → plane_of (phase n) (foot n).0 (foot n).1 ≡ true
-foot_lives zero = refl
-foot_lives (suc zero) = refl
-foot_lives (suc (suc zero)) = refl
-foot_lives (suc (suc (suc n))) = refl
+first_lives : (n : ℕ) → plane_of (phase n) (first_of_phase n).0 (first_of_phase n).1 ≡ true
+first_lives zero = refl
+first_lives (suc zero) = refl
+first_lives (suc (suc zero)) = refl
+first_lives (suc (suc (suc n))) = refl
 
--- where a live cell of a phase is
-record IsPastFoot (n : ℕ) (x y : ℤ) : Type 0 where
-  pub is : (y <ℤ (foot n).1) ⊎ ((y ≡ (foot n).1) × ((foot n).0 ≤ℤ x))
+-- where the live cells of a phase are
+record IsAfterFirst (n : ℕ) (x y : ℤ) : Type 0 where
+  pub is : (y <ℤ (first_of_phase n).1) ⊎ ((y ≡ (first_of_phase n).1) × ((first_of_phase n).0 ≤ℤ x))
 
-lies_past_foot : (n : ℕ) (x y : ℤ) → plane_of (phase n) x y ≡ true → IsPastFoot n x y
-lies_past_foot n x y live = record {
-  is = elim (either _ _ (each_live (is_past_foot (foot n)) (phase n) (past_foot n) x y live)) [
+lies_after_first : (n : ℕ) (x y : ℤ) → plane_of (phase n) x y ≡ true → IsAfterFirst n x y
+lies_after_first n x y live = record {
+  is = elim (either _ _ (each_live (is_after_first (first_of_phase n)) (phase n) (after_first n) x y live)) [
     | inl h ↦ inl (less h)
-    | inr h ↦ let both = both_true _ _ h in inr ((signed_Decides y (foot n).1).0 both.0, at_most both.1)
+    | inr h ↦ let both = both_true _ _ h in inr ((signed_Decides y (first_of_phase n).1).0 both.0, at_most both.1)
   ];
 }
 
@@ -61,20 +61,20 @@ in_phase : (lane j : ℤ) (w : Quartered j) (x y : ℤ) → salvo_glider lane j 
 unfolding salvo_glider
 in_phase lane j w x y = ap (λ (s : Plane). s (x -ℤ lane) (neg_ℤ (y -ℤ pos 0))) (ap stream_glider w.is ∙ stream_glider_at w.q w.r w.below)
 
--- the foot, placed, lives
-foot_is_live : (lane j : ℤ) (w : Quartered j) → salvo_glider lane j (lane +ℤ (w.q +ℤ (foot w.r).0)) (neg_ℤ (w.q +ℤ (foot w.r).1)) ≡ true
-foot_is_live lane j w =
+-- the lowest cell of the phase, placed, lives
+first_is_live : (lane j : ℤ) (w : Quartered j) → salvo_glider lane j (lane +ℤ (w.q +ℤ (first_of_phase w.r).0)) (neg_ℤ (w.q +ℤ (first_of_phase w.r).1)) ≡ true
+first_is_live lane j w =
     let ex : (a : ℤ) → ((lane +ℤ (w.q +ℤ a)) -ℤ lane) -ℤ w.q ≡ a = λ a. omega (arith, ints) in
     let ey : (b : ℤ) → neg_ℤ (neg_ℤ (w.q +ℤ b) -ℤ pos 0) -ℤ w.q ≡ b = λ b. omega (arith, ints) in
-    in_phase lane j w _ _ ∙ ap (λ x. plane_of (phase w.r) x (neg_ℤ (neg_ℤ (w.q +ℤ (foot w.r).1) -ℤ pos 0) -ℤ w.q)) (ex (foot w.r).0) ∙ ap (λ y. plane_of (phase w.r) (foot w.r).0 y) (ey (foot w.r).1) ∙ foot_lives w.r
+    in_phase lane j w _ _ ∙ ap (λ x. plane_of (phase w.r) x (neg_ℤ (neg_ℤ (w.q +ℤ (first_of_phase w.r).1) -ℤ pos 0) -ℤ w.q)) (ex (first_of_phase w.r).0) ∙ ap (λ y. plane_of (phase w.r) (first_of_phase w.r).0 y) (ey (first_of_phase w.r).1) ∙ first_lives w.r
 
--- numbers of the first cell against those of the foot
-at_foot : (x y fx fy lane q : ℤ) → ((neg_ℤ (y -ℤ pos 0) -ℤ q) <ℤ fy) ⊎ (((neg_ℤ (y -ℤ pos 0) -ℤ q) ≡ fy) × (fx ≤ℤ ((x -ℤ lane) -ℤ q))) → (cell_cmp (cell (lane +ℤ (q +ℤ fx)) (neg_ℤ (q +ℤ fy))) (cell x y) ≡ Less → ⊥) →
+-- a cell that is not above it, and that it does not come before, is that cell
+at_first : (x y fx fy lane q : ℤ) → ((neg_ℤ (y -ℤ pos 0) -ℤ q) <ℤ fy) ⊎ (((neg_ℤ (y -ℤ pos 0) -ℤ q) ≡ fy) × (fx ≤ℤ ((x -ℤ lane) -ℤ q))) → (cell_cmp (cell (lane +ℤ (q +ℤ fx)) (neg_ℤ (q +ℤ fy))) (cell x y) ≡ Less → ⊥) →
     cell x y ≡ cell (lane +ℤ (q +ℤ fx)) (neg_ℤ (q +ℤ fy))
-at_foot x y fx fy lane q (inl h) not_before =
+at_first x y fx fy lane q (inl h) not_before =
     let above : neg_ℤ (q +ℤ fy) <ℤ y = omega (arith, ints) in
     absurd (not_before (before_by_row (cell (lane +ℤ (q +ℤ fx)) (neg_ℤ (q +ℤ fy))) (cell x y) above))
-at_foot x y fx fy lane q (inr (ey, ex)) not_before = by_column (further x (lane +ℤ (q +ℤ fx)) (omega (arith, ints)))
+at_first x y fx fy lane q (inr (ey, ex)) not_before = by_column (further x (lane +ℤ (q +ℤ fx)) (omega (arith, ints)))
   where
     further : (a b : ℤ) → b ≤ℤ a → (b <ℤ a) ⊎ (a ≡ b)
     further a b h = grind (arith, ints)
@@ -102,17 +102,17 @@ first_begins lane j first h =
       start = record {
         quarters = w.q;
         index = w.is;
-        at = at_foot first.x first.y (foot w.r).0 (foot w.r).1 lane w.q (lies_past_foot w.r _ _ here).is (h.none_before _ _ (foot_is_live lane j w));
+        at = at_first first.x first.y (first_of_phase w.r).0 (first_of_phase w.r).1 lane w.q (lies_after_first w.r _ _ here).is (h.none_before _ _ (first_is_live lane j w));
       };
     }
 
 -- the glider that a phase and a first cell tell
-pub starts : (first : Cell) (n x y : ℕ) (q lane j : ℤ) → cell_at_rest (x, y) ≡ foot n → q ≡ neg_ℤ first.y -ℤ pos y → lane ≡ (first.x -ℤ q) -ℤ pos x → j ≡ pos 4 *ℤ q +ℤ pos n → StartsAt first n lane j
+pub starts : (first : Cell) (n x y : ℕ) (q lane j : ℤ) → cell_at_rest (x, y) ≡ first_of_phase n → q ≡ neg_ℤ first.y -ℤ pos y → lane ≡ (first.x -ℤ q) -ℤ pos x → j ≡ pos 4 *ℤ q +ℤ pos n → StartsAt first n lane j
 starts first n x y q lane j is eq el ej =
-    let ex : pos x ≡ (foot n).0 = ap (λ (p : ℤ × ℤ). p.0) is in
-    let ey : pos y ≡ (foot n).1 = ap (λ (p : ℤ × ℤ). p.1) is in
-    let sx : first.x ≡ lane +ℤ (q +ℤ (foot n).0) = omega (arith, ints) in
-    let sy : first.y ≡ neg_ℤ (q +ℤ (foot n).1) = omega (arith, ints) in
+    let ex : pos x ≡ (first_of_phase n).0 = ap (λ (p : ℤ × ℤ). p.0) is in
+    let ey : pos y ≡ (first_of_phase n).1 = ap (λ (p : ℤ × ℤ). p.1) is in
+    let sx : first.x ≡ lane +ℤ (q +ℤ (first_of_phase n).0) = omega (arith, ints) in
+    let sy : first.y ≡ neg_ℤ (q +ℤ (first_of_phase n).1) = omega (arith, ints) in
     record { quarters = q; index = ej; at = λ i. record { y = sy i; x = sx i } }
 
 -- a phase and a first cell tell the lane and the index
@@ -121,8 +121,8 @@ one_start first n l j m k a b =
     let q = a.quarters in
     let r = b.quarters in
     let same = sym a.at ∙ b.at in
-    let ex : l +ℤ (q +ℤ (foot n).0) ≡ m +ℤ (r +ℤ (foot n).0) = ap (λ (c : Cell). c.x) same in
-    let ey : neg_ℤ (q +ℤ (foot n).1) ≡ neg_ℤ (r +ℤ (foot n).1) = ap (λ (c : Cell). c.y) same in
+    let ex : l +ℤ (q +ℤ (first_of_phase n).0) ≡ m +ℤ (r +ℤ (first_of_phase n).0) = ap (λ (c : Cell). c.x) same in
+    let ey : neg_ℤ (q +ℤ (first_of_phase n).1) ≡ neg_ℤ (r +ℤ (first_of_phase n).1) = ap (λ (c : Cell). c.y) same in
     let ja = a.index in
     let jb = b.index in
     (omega (arith, ints), omega (arith, ints))

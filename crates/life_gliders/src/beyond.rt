@@ -11,7 +11,7 @@ ghost use Rattle.life_gliders.specs.Beyond.{beyond, IsFirstLive, IsPartOf};
 use life_cells::{Cell, CellSet};
 
 // Whether the cell's u = x - y is at least five more than the wall.
-fn is_past(cell: Cell, wall: i64) -> bool
+fn is_beyond(cell: Cell, wall: i64) -> bool
     requires cell { IsCellInRange (2 ^ 58) cell }
     requires low { neg_ℤ (pos 4096) ≤ℤ wall }
     requires high { wall ≤ℤ pos 4096 }
@@ -21,13 +21,13 @@ fn is_past(cell: Cell, wall: i64) -> bool
 }
 
 // Whether the set has this cell, and it is in front of the wall.
-fn has_past(cells: &CellSet, wall: i64, cell: Cell) -> bool
+fn has_beyond(cells: &CellSet, wall: i64, cell: Cell) -> bool
     requires cells { IsInRange (2 ^ 58) (alive cells.now) }
     requires low { neg_ℤ (pos 4096) ≤ℤ wall }
     requires high { wall ≤ℤ pos 4096 }
     ensures { result ≡ beyond wall (alive cells.now) cell.x cell.y }
 {
-    cells.contains(cell) && is_past(cell, wall)
+    cells.contains(cell) && is_beyond(cell, wall)
 }
 
 // Whether this cell is listed.
@@ -47,7 +47,7 @@ pub(crate) fn first_beyond(cells: &CellSet, wall: i64) -> Option<Cell>
     ensures none { IfNone result (beyond wall (alive cells.now) ≡ nothing) }
 {
     for cell in cells.cells() {
-        if is_past(*cell, wall) {
+        if is_beyond(*cell, wall) {
             return Some(*cell);
         }
     }
@@ -62,7 +62,7 @@ fn has_all(cells: &CellSet, wall: i64, list: &[Cell]) -> bool
     ensures { IsTrue result ↔ IsPartOf (listed list.now) (beyond wall (alive cells.now)) }
 {
     for cell in list {
-        if !has_past(cells, wall, *cell) {
+        if !has_beyond(cells, wall, *cell) {
             return false;
         }
     }
@@ -77,7 +77,7 @@ fn has_only(cells: &CellSet, wall: i64, list: &[Cell]) -> bool
     ensures { IsTrue result ↔ IsPartOf (beyond wall (alive cells.now)) (listed list.now) }
 {
     for cell in cells.cells() {
-        if is_past(*cell, wall) && !has_cell(list, *cell) {
+        if is_beyond(*cell, wall) && !has_cell(list, *cell) {
             return false;
         }
     }

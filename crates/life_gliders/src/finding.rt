@@ -7,22 +7,22 @@ ghost use Rattle.life_cells.specs.Boxes.{IsInRange};
 ghost use Rattle.life_cells.specs.BoxLaws.{IsCellInRange};
 ghost use Rattle.life_gliders.specs.Beyond.{beyond};
 ghost use Rattle.life_gliders.specs.Listing.{cell_at_rest};
-ghost use Rattle.life_gliders.specs.Starts.{foot, StartsAt};
+ghost use Rattle.life_gliders.specs.Starts.{first_of_phase, StartsAt};
 
 use crate::beyond::{are_beyond, first_beyond};
 use crate::glider::cells_on;
 use crate::track::Track;
 use life_cells::{Cell, CellSet};
 
-// For each phase at rest the lowest cell, and the leftmost of these, x before y.
-const FEET: [(u8, u8); 4] = [(0, 2), (1, 3), (1, 3), (1, 3)];
+// For each phase at rest the cell that comes first once it is turned upside down, x before y.
+const FIRST_OF_PHASE: [(u8, u8); 4] = [(0, 2), (1, 3), (1, 3), (1, 3)];
 
-// The foot of a phase at rest.
-fn foot_at_rest(number: usize) -> (u8, u8)
+// The cell of a phase at rest that comes first once the phase is turned upside down.
+fn first_at_rest(number: usize) -> (u8, u8)
     requires { number < 4 }
-    ensures { cell_at_rest result ≡ foot number }
+    ensures { cell_at_rest result ≡ first_of_phase number }
 {
-    FEET[number]
+    FIRST_OF_PHASE[number]
 }
 
 // The lane and index of the salvo's glider in this phase whose first cell, in (y,x) order, is this one.
@@ -35,7 +35,7 @@ fn starting_at(first: Cell, number: usize) -> (i64, i64)
     ensures index_low { neg_ℤ (pos (2 ^ 61)) ≤ℤ result.1 }
     ensures index_high { result.1 ≤ℤ pos (2 ^ 61) }
 {
-    let (x, y) = foot_at_rest(number);
+    let (x, y) = first_at_rest(number);
     let quarters = -first.y - i64::from(y);
     let lane = first.x - quarters - i64::from(x);
     (lane, 4 * quarters + number as i64)

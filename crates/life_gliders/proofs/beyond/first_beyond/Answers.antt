@@ -7,19 +7,19 @@ use Rattle.life_gliders.proofs.Looking.{live_in_range, place_lives}
 use Rattle.life_gliders.proofs.Past.{first_past, none_past, none_more}
 use Rattle.life_gliders.proofs.beyond.first_beyond.Goals as goal
 
-pub is_past-requires-clause-cell : goal.is_past-requires-clause-cell
-is_past-requires-clause-cell c = live_in_range _ _ _ c.requires.cells (place_lives _ c.args.cells.now c.loop-cell.cell-index _ c.cells-cell-items.ensures.order c.loop-cell-test.true)
+pub is_beyond-requires-clause-cell : goal.is_beyond-requires-clause-cell
+is_beyond-requires-clause-cell c = live_in_range _ _ _ c.requires.cells (place_lives _ c.args.cells.now c.loop-cell.cell-index _ c.cells-cell-items.ensures.order c.loop-cell-test.true)
 
-pub returns-then-is_past-clause-some : goal.returns-then-is_past-clause-some
-returns-then-is_past-clause-some c =
+pub returns-then-is_beyond-clause-some : goal.returns-then-is_beyond-clause-some
+returns-then-is_beyond-clause-some c =
     subst (λ w. IsFirstLive (get_or c.cells-cell-items.result.now c.loop-cell.cell-index (cell (pos 0) (pos 0))) (beyond w (alive c.args.cells.now))) (to_z-of_z w64 c.args.wall c.ranges.wall)
-    (first_past (to_z w64 (of_z w64 c.args.wall)) _ c.args.cells.now c.loop-cell.cell-index _ c.cells-cell-items.ensures.order c.cells-cell-items.ensures.rising c.loop-cell-test.true c.loop-cell.invariant (sym c.is_past.ensures ∙ c.if-is_past.true))
+    (first_past (to_z w64 (of_z w64 c.args.wall)) _ c.args.cells.now c.loop-cell.cell-index _ c.cells-cell-items.ensures.order c.cells-cell-items.ensures.rising c.loop-cell-test.true c.loop-cell.invariant (sym c.is_beyond.ensures ∙ c.if-is_beyond.true))
 
-pub returns-then-is_past-clause-range : goal.returns-then-is_past-clause-range
-returns-then-is_past-clause-range c = live_in_range _ _ _ c.requires.cells (place_lives _ c.args.cells.now c.loop-cell.cell-index _ c.cells-cell-items.ensures.order c.loop-cell-test.true)
+pub returns-then-is_beyond-clause-range : goal.returns-then-is_beyond-clause-range
+returns-then-is_beyond-clause-range c = live_in_range _ _ _ c.requires.cells (place_lives _ c.args.cells.now c.loop-cell.cell-index _ c.cells-cell-items.ensures.order c.loop-cell-test.true)
 
 pub loop-cell-preserved : goal.loop-cell-preserved
-loop-cell-preserved c = none_more (to_z w64 (of_z w64 c.args.wall)) _ c.loop-cell.cell-index _ _ c.loop-cell-test.true c.loop-cell.invariant c.is_past.ensures c.if-is_past.false
+loop-cell-preserved c = none_more (to_z w64 (of_z w64 c.args.wall)) _ c.loop-cell.cell-index _ _ c.loop-cell-test.true c.loop-cell.invariant c.is_beyond.ensures c.if-is_beyond.false
 
 pub returns-clause-none : goal.returns-clause-none
 returns-clause-none c =

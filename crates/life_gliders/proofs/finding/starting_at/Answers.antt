@@ -9,7 +9,7 @@ overflow_sub-lane-2 c = omega (arith, ints, c.from.ensures, c.from-2.ensures)
 pub returns-clause-start : goal.returns-clause-start
 returns-clause-start c =
     let q : ℤ = to_z w64 (of_z w64 (to_z w64 (of_z w64 (pos 0 -ℤ to_z w64 (of_z w64 c.args.first.y))) -ℤ to_z w64 (of_z w64 c.from.result))) in
-    starts c.args.first c.args.number _ _ q _ _ c.foot_at_rest-x.ensures (omega (arith, ints, c.from.ensures, c.from-2.ensures)) (omega (arith, ints, c.from.ensures, c.from-2.ensures)) (omega (arith, ints, c.from.ensures, c.from-2.ensures))
+    starts c.args.first c.args.number _ _ q _ _ c.first_at_rest-x.ensures (omega (arith, ints, c.from.ensures, c.from-2.ensures)) (omega (arith, ints, c.from.ensures, c.from-2.ensures)) (omega (arith, ints, c.from.ensures, c.from-2.ensures))
 
 pub returns-clause-lane_low : goal.returns-clause-lane_low
 returns-clause-lane_low c = omega (arith, ints, c.from.ensures, c.from-2.ensures)

@@ -1,7 +1,7 @@
 use Rattle.std.proofs.Common.{◌≡◌, ◌+ℤ◌, ◌-ℤ◌, pos, arith, w64, to_z, of_z}
 use Rattle.std.specs.Prelude.{int_le}
 use Rattle.std.proofs.lemmas.Int.{ints}
-use Rattle.life_gliders.proofs.beyond.is_past.Goals as goal
+use Rattle.life_gliders.proofs.beyond.is_beyond.Goals as goal
 
 pub returns : goal.returns
 returns c =
