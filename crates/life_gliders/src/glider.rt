@@ -27,9 +27,9 @@ fn phase_at_rest(number: usize) -> [(u8, u8); 5]
 
 // Where a glider that has travelled so many quarters has a cell of its phase.
 fn place(track: Track, quarters: i64, rest: (u8, u8)) -> Cell
-    requires low { neg_ℤ (pos (2 ^ 60)) ≤ℤ quarters }
-    requires high { quarters ≤ℤ pos (2 ^ 60) }
-    requires lane { IsLaneAtMost (2 ^ 60) track }
+    requires low { neg_ℤ (pos (2 ^ 61)) ≤ℤ quarters }
+    requires high { quarters ≤ℤ pos (2 ^ 61) }
+    requires lane { IsLaneAtMost (2 ^ 61) track }
     ensures { result ≡ placed track quarters (cell_at_rest rest) }
 {
     let x = quarters + i64::from(rest.0);
@@ -40,11 +40,12 @@ fn place(track: Track, quarters: i64, rest: (u8, u8)) -> Cell
     }
 }
 
-/// The five cells of the glider of index j on a track, in the order of its phase at rest.
-pub fn glider_cells(track: Track, j: i64) -> [Cell; 5]
-    requires low { neg_ℤ (pos (2 ^ 60)) ≤ℤ j }
-    requires high { j ≤ℤ pos (2 ^ 60) }
-    requires lane { IsLaneAtMost (2 ^ 60) track }
+// The five cells of the glider of index j on a track. The index may be greater than in the public call:
+// that of a glider whose coordinates are within 2^58 can be a little past 2^60.
+pub(crate) fn cells_on(track: Track, j: i64) -> [Cell; 5]
+    requires low { neg_ℤ (pos (2 ^ 61)) ≤ℤ j }
+    requires high { j ≤ℤ pos (2 ^ 61) }
+    requires lane { IsLaneAtMost (2 ^ 61) track }
     ensures cells { listed result ≡ glider track j }
     ensures order { result ≡ glider_list track j }
 {
@@ -58,6 +59,17 @@ pub fn glider_cells(track: Track, j: i64) -> [Cell; 5]
         place(track, quarters, d),
         place(track, quarters, e),
     ]
+}
+
+/// The five cells of the glider of index j on a track, in the order of its phase at rest.
+pub fn glider_cells(track: Track, j: i64) -> [Cell; 5]
+    requires low { neg_ℤ (pos (2 ^ 60)) ≤ℤ j }
+    requires high { j ≤ℤ pos (2 ^ 60) }
+    requires lane { IsLaneAtMost (2 ^ 60) track }
+    ensures cells { listed result ≡ glider track j }
+    ensures order { result ≡ glider_list track j }
+{
+    cells_on(track, j)
 }
 
 #[cfg(test)]

@@ -2,8 +2,14 @@
 //! x goes right and y goes down; a glider's index rises by one a generation.
 #![tactic(auto)]
 
+mod beyond;
+pub mod finding;
 pub mod glider;
+pub mod laws;
+#[cfg(test)]
+mod tests;
 pub mod track;
 
+pub use finding::find_salvo_glider;
 pub use glider::glider_cells;
 pub use track::Track;

@@ -8,6 +8,6 @@ use Rattle.life_gliders.proofs.glider.place.Goals as goal
 
 pub returns-in-Salvo : goal.returns-in-Salvo
 returns-in-Salvo c =
-    let lane : IsLaneAtMost (2 ^ 60) (Salvo c.in-Salvo.lane) = subst (IsLaneAtMost (2 ^ 60)) c.in-Salvo.is c.requires.lane in
+    let lane : IsLaneAtMost (2 ^ 61) (Salvo c.in-Salvo.lane) = subst (IsLaneAtMost (2 ^ 61)) c.in-Salvo.is c.requires.lane in
     placed_on_lane c.in-Salvo.lane c.args.quarters _ _ (cell_at_rest c.args.rest) (omega (arith, ints, c.from.ensures, lane.0, lane.1)) (omega (arith, ints, c.from-2.ensures))
     ∙ ap (λ t. placed t c.args.quarters (cell_at_rest c.args.rest)) (sym c.in-Salvo.is)

@@ -1,0 +1,3 @@
+-- What keeps two planes apart.
+pub mod FarBoxes
+pub mod Sides
