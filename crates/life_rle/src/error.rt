@@ -9,16 +9,16 @@ use thiserror::Error;
 /// Why a text is not read.
 #[derive(Clone, Copy, Debug, PartialEq, Eq, Error)]
 pub enum RleError {
-    /// No line is a header.
+    /// Each line is a comment or blank.
     #[error("no header")]
     NoHeader,
-    /// The header line has another form.
+    /// The header's line has another form.
     #[error("bad header in line {line}")]
     BadHeader { line: u64 },
     /// The header names another rule than Conway's.
     #[error("unknown rule in line {line}")]
     BadRule { line: u64 },
-    /// A byte is no part of an item.
+    /// A byte is no part of an item, or begins a count that follows another.
     #[error("bad item at byte {at}")]
     BadItem { at: u64 },
     /// A count is zero, too long, or stands before the end.
@@ -33,9 +33,6 @@ pub enum RleError {
     /// More than 2^18 live cells.
     #[error("{count} live cells")]
     TooMany { count: u64 },
-    /// A form that is not read yet.
-    #[error("not yet read at byte {at}")]
-    NotYet { at: u64 },
     /// No memory.
     #[error("no memory")]
     Memory,

@@ -3,10 +3,11 @@
 ghost use Rattle.std.specs.Prelude.{◌≡◌, ◌++◌, ◌^◌, ◌<◌, ◌≢◌, ℕ, List, OnOk, OnErr, IfOk};
 ghost use Rattle.std.specs.Option.{option_copied};
 ghost use Rattle.std.specs.String.{string_bytes};
+ghost use Rattle.rle_items.specs.Words.{IsNotNegative, WordMeans};
 ghost use Rattle.life_cells.specs.Cells.{alive};
 ghost use Rattle.life_cells.specs.Boxes.{IsInRange};
-ghost use Rattle.life_rle.specs.Text.{Means, WordMeans};
-ghost use Rattle.life_rle.specs.Written.{IsRleText, IsBodyText, Appends, HasNoLineBreak, IsNotNegative};
+ghost use Rattle.life_rle.specs.Text.{Means};
+ghost use Rattle.life_rle.specs.Written.{IsRleText, IsBodyText, Appends, HasNoLineBreak};
 
 use crate::drawing::items_of;
 use crate::head::{frame_of, push_head};

@@ -14,6 +14,7 @@ use Rattle.rle_items.specs.declared.error.BodyError.{BodyError}
 use Rattle.rle_items.specs.declared.error.BodyError.TheVariants.{BadItem, BadCount, NoEnd, TooFar, TooMany, Memory}
 use Rattle.rle_items.specs.Items.{live, is_row_end, AreCells}
 use Rattle.rle_items.specs.ItemLaws.{fine_none, fine_push, spells_push, columns_push_other}
+use Rattle.rle_items.specs.SpellingLaws.{count_some}
 use Rattle.rle_items.specs.Spelling.{SpellsItem, IsNone, IsCount}
 use Rattle.rle_items.specs.Words.{WordMeans}
 use Rattle.rle_items.specs.Words.{IsNotNegative}
@@ -65,10 +66,6 @@ first_in_reach c first within is =
 
 pub next_short : (rest : List ℕ) (item : Item) (tag : ℕ) (more : List ℕ) → IsNext rest item tag more → length more < length rest
 next_short rest item tag more n = omega (arith, length-append n.digits (tag ∷ more), ap length n.at.split)
-
-pub count_some : (digits : List ℕ) (n : ℕ) → IsCount digits n → 0 < n
-count_some [] n h = omega arith
-count_some (d ∷ ds) n h = h.1
 
 next_spells : (rest : List ℕ) (item : Item) (tag : ℕ) (more : List ℕ) (n : IsNext rest item tag more) → SpellsItem IsNone (n.digits ++ (tag ∷ [])) item
 next_spells rest item tag more n = record {

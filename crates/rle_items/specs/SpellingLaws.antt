@@ -1,5 +1,5 @@
 -- Laws of spelled items: what stands at the front of bytes is determined.
-use Rattle.std.proofs.Common.{◌≡◌, ◌≢◌, ℕ, ◌≤◌, ◌⊎◌, true, false, List, [], ◌∷◌, ◌++◌, refl, sym, ap, ◌∙◌, subst, inl, inr, arith, Some, None, eqb}
+use Rattle.std.proofs.Common.{◌≡◌, ◌≢◌, ℕ, ◌<◌, ◌≤◌, ◌⊎◌, true, false, List, [], ◌∷◌, ◌++◌, refl, sym, ap, ◌∙◌, subst, inl, inr, arith, Some, None, eqb}
 use Rattle.std.specs.Char.{is_ascii_digit}
 use Rattle.std.specs.Str.{all_ascii_digits}
 use Rattle.std.proofs.lemmas.List.{append_assoc, append-nil}
@@ -49,6 +49,10 @@ tag_no_digit b tag e = elim (cases_Bool (is_ascii_digit b)) [
 pub count_digits : (digits : List ℕ) (n : ℕ) → IsCount digits n → all_ascii_digits digits ≡ true
 count_digits [] n h = refl
 count_digits (d ∷ ds) n h = h.0.digits.digits
+
+pub count_some : (digits : List ℕ) (n : ℕ) → IsCount digits n → 0 < n
+count_some [] n h = omega arith
+count_some (d ∷ ds) n h = h.1
 
 pub one_number : (digits : List ℕ) (m n : ℕ) → IsCount digits m → IsCount digits n → m ≡ n
 one_number [] m n g h = g ∙ sym h
