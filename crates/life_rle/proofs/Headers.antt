@@ -1,10 +1,10 @@
 -- The parts of a header, one after the other: each stands at one place.
-use Rattle.std.proofs.Common.{◌≡◌, ◌≢◌, ℕ, ◌+◌, ◌<◌, ◌≤◌, ◌⊎◌, true, false, not, List, [], ◌∷◌, ◌++◌, length, get_or, take, drop, map, codes, refl, sym, ap, ◌∙◌, subst, inl, inr, arith, eqb, Option, Some, None, MatchOption, IfSome, IfNone}
+use Rattle.std.proofs.Common.{◌≡◌, ◌≢◌, ℕ, ◌+◌, ◌<◌, ◌≤◌, ◌⊎◌, true, false, not, List, [], ◌∷◌, ◌++◌, length, get_or, take, drop, map, codes, refl, sym, ap, ◌∙◌, subst, inl, inr, arith, Option, Some, None, MatchOption, IfSome, IfNone}
 use Rattle.std.specs.List.{AllByRecursion, position}
 use Rattle.std.specs.Char.{is_ascii_digit, to_ascii_lowercase}
-use Rattle.std.proofs.lemmas.List.{append_assoc, append-nil, append_cancel_left, drop_more, drop_all}
+use Rattle.std.proofs.lemmas.List.{append-nil, append_cancel_left, drop_more, drop_all}
 use Rattle.std.proofs.lemmas.Bool.{and_parts, not-true, not-false, cases_Bool, or_cases, eqb-true, ne_eqb}
-use Rattle.rle_items.specs.Numbers.{IsNatural, IsDigits, value}
+use Rattle.rle_items.specs.Numbers.{IsDigits, value}
 use Rattle.rle_items.specs.Faults.{IsAtCount}
 use Rattle.rle_items.specs.SpellingLaws.{one_count, digit_range}
 use Rattle.life_rle.specs.Blanks.{is_blank_byte, IsBlank, IsPassedOver}

@@ -1,14 +1,14 @@
 -- What a text means that is read.
-use Rattle.std.proofs.Common.{◌≡◌, ℕ, ◌≤◌, ◌^◌, true, false, List, [], ◌∷◌, ◌++◌, length, refl, sym, ap, ◌∙◌, subst, inl, inr}
+use Rattle.std.proofs.Common.{◌≡◌, ℕ, ◌^◌, true, false, List, [], ◌∷◌, ◌++◌, sym, ap, ◌∙◌, subst, inl, inr}
 use Rattle.std.proofs.lemmas.List.{append_assoc}
-use Rattle.life_cells.specs.Cells.{alive, in_order, Cells}
+use Rattle.life_cells.specs.Cells.{alive, Cells}
 use Rattle.life_cells.specs.Boxes.{IsInRange}
 use Rattle.life_cells.specs.declared.cell.Cell.{Cell}
-use Rattle.life_rle.specs.Lines.{behind, EndsWith}
+use Rattle.life_rle.specs.Lines.{EndsWith}
 use Rattle.life_rle.specs.Blanks.{blanked}
 use Rattle.life_rle.specs.Text.{HasBody, Says, Means}
 use Rattle.life_rle.specs.TextFaults.{IsFineText}
-use Rattle.life_rle.specs.Readers.{ends_line, seen, seen_from, IsRead}
+use Rattle.life_rle.specs.Readers.{seen, seen_from, IsRead}
 use Rattle.life_rle.proofs.Lined.{lines_end, ends_on, behind_ends, behind_begins}
 use Rattle.life_rle.proofs.Seen.{ends_line-append, seen_at, blanked_is}
 use Rattle.life_rle.proofs.TextSoFar.{fine_square}

@@ -1,5 +1,5 @@
 -- A text says one place and one list of items.
-use Rattle.std.proofs.Common.{◌≡◌, ◌≢◌, ℕ, ◌<◌, true, List, [], ◌∷◌, ◌++◌, length, refl, sym, ap, ◌∙◌, subst, inl, inr, arith, Option, Some, None, MatchOption, codes, ℤ, pos, neg_ℤ}
+use Rattle.std.proofs.Common.{◌≡◌, ◌≢◌, ℕ, true, List, [], ◌∷◌, ◌++◌, refl, sym, ap, ◌∙◌, subst, inl, inr, arith, Option, Some, None, MatchOption, codes, ℤ, pos, neg_ℤ}
 use Rattle.std.specs.List.{AllByRecursion, find}
 use Rattle.std.specs.Str.{all_ascii_digits}
 use Rattle.std.proofs.lemmas.List.{append_assoc, append_cancel_left}
@@ -13,7 +13,7 @@ use Rattle.rle_items.specs.Items.{AreCells}
 use Rattle.rle_items.specs.Spelling.{IsWhite}
 use Rattle.rle_items.specs.SpellingLaws.{digit_range, white_kind, one_list}
 use Rattle.rle_items.specs.DrawnCells.{same_cells}
-use Rattle.life_rle.specs.Lines.{first_line, behind}
+use Rattle.life_rle.specs.Lines.{behind}
 use Rattle.life_rle.specs.Blanks.{IsPassedOver, blanked}
 use Rattle.life_rle.specs.Text.{IsPlaceWord, IsPlaceIn, IsPlace, gives_place, words, IsAtHeader, HasBody, Says, Means}
 use Rattle.life_rle.proofs.Lined.{one_rest, IsSameRest}

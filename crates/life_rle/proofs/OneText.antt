@@ -1,12 +1,12 @@
 -- A text is refused for one reason.
-use Rattle.std.proofs.Common.{◌≡◌, ◌≢◌, ℕ, ◌+◌, ◌<◌, ◌≤◌, ◌^◌, ◌⊎◌, true, false, List, [], ◌∷◌, ◌++◌, length, refl, sym, ap, ◌∙◌, subst, inl, inr, arith}
+use Rattle.std.proofs.Common.{◌≡◌, ◌≢◌, ℕ, ◌+◌, ◌<◌, ◌⊎◌, false, List, [], ◌∷◌, ◌++◌, length, refl, sym, ap, ◌∙◌, subst, inl, inr, arith}
 use Rattle.std.specs.List.{AllByRecursion}
 use Rattle.std.specs.Str.Lines.{lines}
 use Rattle.std.proofs.lemmas.List.{append_assoc}
 use Rattle.life_cells.specs.declared.cell.Cell.{Cell}
 use Rattle.rle_items.specs.declared.item.Item.{Item}
 use Rattle.rle_items.specs.Spelling.{Spells, IsWhite}
-use Rattle.rle_items.specs.Reach.{IsInReach, cursor_behind, AreFineFrom}
+use Rattle.rle_items.specs.Reach.{IsInReach, AreFineFrom}
 use Rattle.rle_items.specs.SpellingLaws.{white_kind, GoesOnWith, one_goes_on, goes_on_by_item, IsSamePlace, same_place, end_stops}
 use Rattle.life_rle.specs.declared.error.RleError.{RleError}
 use Rattle.life_rle.specs.declared.error.RleError.TheVariants.{NoHeader, BadHeader, BadRule, BadItem, BadCount, NoEnd, TooFar, TooMany, Memory}

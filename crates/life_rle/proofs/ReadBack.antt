@@ -1,5 +1,5 @@
 -- What is read from a text that is written is what was written.
-use Rattle.std.proofs.Common.{◌≡◌, ◌≢◌, ℕ, ◌+◌, ◌<◌, ◌≤◌, ◌^◌, true, not, ◌==◌, List, [], ◌∷◌, ◌++◌, length, refl, sym, ap, ◌∙◌, subst, arith, Option, pos, neg_ℤ, ℤ, ◌≤ℤ◌, eqb}
+use Rattle.std.proofs.Common.{◌≡◌, ℕ, ◌+◌, ◌<◌, ◌≤◌, ◌^◌, true, not, ◌==◌, List, [], ◌∷◌, ◌++◌, length, refl, sym, ap, ◌∙◌, subst, arith, Option, pos, neg_ℤ, ℤ, ◌≤ℤ◌, eqb}
 use Rattle.std.specs.List.{list_all, flat_map}
 use Rattle.std.proofs.lemmas.Int.{ints}
 use Rattle.std.proofs.lemmas.List.{append_assoc}
@@ -11,7 +11,6 @@ use Rattle.life_cells.specs.declared.cell.Cell.{Cell}
 use Rattle.rle_items.specs.declared.item.Item.{Item}
 use Rattle.rle_items.specs.Items.{AreCells}
 use Rattle.rle_items.specs.Words.{WordMeans}
-use Rattle.life_rle.specs.Blanks.{blanked}
 use Rattle.life_rle.specs.Text.{Says, Means}
 use Rattle.life_rle.specs.TextFaults.{IsFineText}
 use Rattle.life_rle.specs.Written.{IsRleText, place_line, note_line, header_line, folded, pieces, HasNoLineBreak}

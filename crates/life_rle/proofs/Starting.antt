@@ -10,11 +10,11 @@ use Rattle.life_rle.specs.declared.start.PlaceLine.{PlaceLine}
 use Rattle.life_rle.specs.declared.error.RleError.{RleError}
 use Rattle.life_rle.specs.declared.error.RleError.TheVariants.{NoHeader, BadHeader, BadRule, BadItem, BadCount, NoEnd, TooFar, TooMany, Memory}
 use Rattle.life_rle.specs.Lines.{first_line, behind, BeginsWithLines}
-use Rattle.life_rle.specs.Header.{HasHeaderForm, IsHeader}
+use Rattle.life_rle.specs.Header.{IsHeader}
 use Rattle.life_rle.specs.Blanks.{IsPassedOver}
 use Rattle.life_rle.specs.Text.{gives_place, IsPlaceIn, IsPlace, words, IsAtHeader, HasBody}
 use Rattle.rle_items.specs.Faults.{BeginsAt}
-use Rattle.life_rle.specs.TextFaults.{HasBadHeader, HasBadRule, HasPlaceLine, HasFarPlace, StartStopsWith}
+use Rattle.life_rle.specs.TextFaults.{HasPlaceLine, HasFarPlace, StartStopsWith}
 use Rattle.life_rle.specs.Readers.{HasFound, IsOpened, Gives, GivesFar, PlaceIsRefused, HeaderIsRefused}
 use Rattle.life_rle.proofs.Lined.{lines_push, lines_split, each_push, behind_short}
 

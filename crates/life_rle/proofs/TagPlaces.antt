@@ -1,19 +1,17 @@
 -- Where a tag should stand, as a text with blank comments shows it.
-use Rattle.std.proofs.Common.{◌≡◌, ◌≢◌, ℕ, ◌+◌, ◌<◌, ◌≤◌, ◌⊎◌, false, List, [], ◌∷◌, ◌++◌, length, refl, sym, ap, ◌∙◌, subst, inl, inr, arith, Some, None, eqb}
+use Rattle.std.proofs.Common.{◌≡◌, ◌≢◌, ℕ, ◌<◌, ◌⊎◌, false, List, [], ◌∷◌, ◌++◌, length, refl, sym, ap, ◌∙◌, subst, inl, inr, arith, Some, None}
 use Rattle.std.specs.Char.{is_ascii_digit}
-use Rattle.std.proofs.lemmas.List.{append_assoc, length-append}
-use Rattle.life_cells.specs.declared.cell.Cell.{Cell}
+use Rattle.std.proofs.lemmas.List.{append_assoc}
 use Rattle.rle_items.specs.declared.item.Item.{Item}
-use Rattle.rle_items.specs.declared.item.Tag.{Tag}
 use Rattle.rle_items.specs.Numbers.{value}
-use Rattle.rle_items.specs.Spelling.{IsCount, is_white, tag_of}
+use Rattle.rle_items.specs.Spelling.{IsCount, tag_of}
 use Rattle.rle_items.specs.Faults.{BeginsAt, IsAtCount}
 use Rattle.rle_items.specs.SpellingLaws.{join_white, dark_byte}
 use Rattle.life_rle.specs.Lines.{EndsWith}
 use Rattle.life_rle.specs.TextFaults.{IsPastWhite, IsAtTag, HasBadDigits, HasStrayByte, EndsBeforeTag}
 use Rattle.life_rle.specs.Readers.{seen_from, IsItemAt, IsEndBehind}
 use Rattle.life_rle.proofs.Lined.{ends_on}
-use Rattle.life_rle.proofs.Seen.{digits_no_hash, seen_behind, passed_front, seen_dark, seen_no_digit, seen_from_length}
+use Rattle.life_rle.proofs.Seen.{digits_no_hash, seen_behind, seen_dark, seen_no_digit, seen_from_length}
 
 -- ---- a count
 

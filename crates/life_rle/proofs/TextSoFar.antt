@@ -1,7 +1,7 @@
 -- A text's items that are read up to a rest.
 use Rattle.std.proofs.Common.{◌≡◌, ℕ, ◌<◌, ◌≤◌, ◌^◌, true, List, [], ◌∷◌, ◌++◌, length, refl, sym, ap, ◌∙◌, subst, inl, inr, arith, pos, ℤ, ◌+ℤ◌, ◌≤ℤ◌}
 use Rattle.std.proofs.lemmas.Int.{ints}
-use Rattle.std.proofs.lemmas.List.{append_assoc, append-nil, length-append}
+use Rattle.std.proofs.lemmas.List.{append_assoc, length-append}
 use Rattle.std.proofs.lemmas.Bool.{cases_Bool}
 use Rattle.life_plane.specs.Plane.{Plane}
 use Rattle.life_cells.specs.declared.cell.Cell.{Cell}
@@ -102,7 +102,6 @@ row_fits place items i c d first t b a w is =
     omega (arith, ints, columns_push_other items i (ap is_row_end t))
 
 -- ---- the items so far
-
 
 -- the body is read up to the rest; the cursor is behind the items, and the cells are theirs
 pub record IsTextSoFar (text : List ℕ) (place : Cell) (body rest : List ℕ) (cursor : Cursor) (cells : List Cell) : Type 0 where

@@ -7,7 +7,6 @@ use Rattle.life_cells.specs.declared.cell.Cell.{Cell}
 use Rattle.rle_items.specs.declared.item.Item.{Item}
 use Rattle.rle_items.specs.declared.cursor.Cursor.{Cursor}
 use Rattle.rle_items.specs.Items.{AreCells}
-use Rattle.rle_items.specs.Spelling.{IsWhite}
 use Rattle.rle_items.specs.Reach.{IsInReach}
 use Rattle.rle_items.specs.Faults.{BeginsAt}
 use Rattle.life_rle.specs.declared.header.Form.{Form}
@@ -19,7 +18,7 @@ use Rattle.life_rle.specs.Blanks.{IsBlank, is_blank_byte, IsPassedOver}
 use Rattle.life_rle.specs.Header.{HasHeaderForm, IsHeader}
 use Rattle.life_rle.specs.Text.{words, gives_place, IsPlaceIn}
 use Rattle.life_rle.specs.Lines.{BeginsWithLines}
-use Rattle.life_rle.specs.TextFaults.{HasPlaceLine, IsBodyReadTo, IsPastWhite, IsAtTag, IsNextItem, IsItemFault}
+use Rattle.life_rle.specs.TextFaults.{HasPlaceLine, IsBodyReadTo, IsPastWhite, IsNextItem}
 
 -- ---- before the items
 

@@ -16,7 +16,11 @@ use std::alloc::Global;
 
 /// The live cells of a body word, its first item at (0,0).
 ///
-/// Coordinates are at most 2^40, and there are at most 2^18 live cells. A refusal is the first from the word's front.
+/// Coordinates are at most 2^40, and there are at most 2^18 live cells.
+///
+/// # Errors
+///
+/// The first fault from the word's front, as `BodyError` names them.
 pub fn read_body(alloc: Global, word: &[u8]) -> Result<CellSet, BodyError>
     ensures cells { IfOk result (λ cells. WordMeans word.now (alive cells)) }
     ensures fine { IfOk result (λ _. IsFineWord word.now) }

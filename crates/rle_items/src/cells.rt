@@ -20,6 +20,10 @@ fn add_row_cells(cells: &mut Vec<Cell>, first: Cell, count: u64) -> Result<(), N
 }
 
 /// Adds the cells of an item, the first of them being this.
+///
+/// # Errors
+///
+/// `NoMemory` where there is no memory for them.
 pub fn add_cells(cells: &mut Vec<Cell>, first: Cell, item: Item) -> Result<(), NoMemory>
     requires first { IsInReach first }
     requires last { item.tag ≡ Tag.Alive → (first.x +ℤ pos item.count) ≤ℤ pos (2 ^ 40) }

@@ -59,6 +59,10 @@ impl Cursor {
     }
 
     /// Refuses a cursor that is too far, and one with too many live cells so far. The last item's tag is at this place.
+    ///
+    /// # Errors
+    ///
+    /// `TooFar` with that place, and `TooMany` with the number of live cells where the cursor is near.
     pub fn check(self, at: u64) -> Result<(), BodyError>
         ensures ok { OnOk result (IsWithin self) }
         ensures err { IfErr result (λ e. Passes self at e) }

@@ -57,6 +57,10 @@ fn read_end(word: &[u8], rest: &[u8], after: &[u8]) -> Result<(), BodyError>
 }
 
 /// The item at the front of a rest of a word. None at the `!` that ends the word.
+///
+/// # Errors
+///
+/// `BadCount`, `NoEnd` or `BadItem`, whichever stands at the rest's front.
 pub fn next_item<'a>(word: &[u8], rest: &'a [u8]) -> Result<Option<Front<'a>>, BodyError>
     requires { length rest.now ≤ length word.now }
     ensures item { IfOk result (λ o. IfSome o (λ f. (tag : ℕ) × (IsNext rest.now f.item tag f.more.now × BeginsAt word.now (tag ∷ f.more.now) f.at))) }

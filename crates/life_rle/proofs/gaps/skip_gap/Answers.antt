@@ -1,4 +1,4 @@
-use Rattle.std.proofs.Common.{refl, subst, List, ℕ, sym, ◌∙◌}
+use Rattle.std.proofs.Common.{subst, List, ℕ, sym, ◌∙◌}
 use Rattle.std.proofs.lemmas.Bool.{false≢true}
 use Rattle.life_rle.specs.TextFaults.{IsPastWhite}
 use Rattle.life_rle.proofs.Skipped.{skipped_white, skipped_comment, comment_shorter, gap_skipped}

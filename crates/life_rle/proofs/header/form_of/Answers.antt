@@ -1,4 +1,3 @@
-use Rattle.std.proofs.Common.{sym, ◌∙◌}
 use Rattle.std.proofs.lemmas.Bool.{false≢true}
 use Rattle.life_rle.proofs.Lined.{some_of_false}
 use Rattle.life_rle.proofs.Headers.{form_with_rule, no_header_with, no_form_with}

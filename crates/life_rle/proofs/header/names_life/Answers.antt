@@ -1,5 +1,4 @@
-use Rattle.std.proofs.Common.{inl, inr, sym, ◌∙◌}
-use Rattle.std.proofs.lemmas.Bool.{false≢true}
+use Rattle.std.proofs.Common.{inl, inr}
 use Rattle.life_rle.proofs.Headers.{named_by, words_of}
 use Rattle.life_rle.proofs.header.names_life.Goals.{then-is_word, else-is_word}
 use Rattle.life_rle.proofs.header.names_life.Goals as goal
