@@ -5,7 +5,7 @@ use Rattle.std.specs.Str.{all_ascii_digits}
 use Rattle.std.proofs.lemmas.Str.Parse.{IsNumeralModel, numerals_by_value, tells_all_ascii_digits, digit_at, digits_value_short, digits_value-take-le}
 use Rattle.std.proofs.lemmas.Int.Digits.{digits_value_more}
 use Rattle.std.proofs.lemmas.Bool.Decides.{nat_tests}
-use Rattle.life_rle.specs.Numbers.{value}
+use Rattle.rle_items.specs.Numbers.{value}
 
 digits_model : IsNumeralModel (λ ds. all_ascii_digits ds ≡ true) value
 digits_model = numerals_by_value _ tells_all_ascii_digits

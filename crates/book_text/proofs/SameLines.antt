@@ -5,7 +5,7 @@ use Rattle.life_plane.specs.Plane.{shift}
 use Rattle.life_cells.specs.declared.cell.Cell.{Cell}
 use Rattle.life_cells.specs.Cells.{Cells, alive}
 use Rattle.life_cells.specs.Laws.{same_cells}
-use Rattle.life_rle.specs.Text.{WordMeans}
+use Rattle.rle_items.specs.Words.{WordMeans}
 use Rattle.book_parts.specs.Proper.{AreDistinct}
 use Rattle.book_parts.specs.declared.settings.Range.{Range}
 use Rattle.book_parts.specs.declared.kind.RawKind.{RawKind}

@@ -7,15 +7,15 @@ use Rattle.std.proofs.lemmas.Bool.{and_parts, false≢true, cases_Bool}
 use Rattle.std.proofs.lemmas.Bool.Decides.{nat_tests}
 use Rattle.life_plane.specs.Plane.{Plane, same_plane}
 use Rattle.life_cells.specs.Cells.{cell}
-use Rattle.life_rle.specs.declared.item.Item.{Item}
-use Rattle.life_rle.specs.declared.item.Tag.{Tag}
-use Rattle.life_rle.specs.declared.error.BodyError.{BodyError}
-use Rattle.life_rle.specs.declared.error.BodyError.TheVariants.{BadItem, BadCount, NoEnd, TooFar, TooMany, Memory}
-use Rattle.life_rle.specs.Numbers.{value}
-use Rattle.life_rle.specs.Items.{AreCells, live}
-use Rattle.life_rle.specs.Spelling.{SpellsItem, Spells, IsCount, IsNone, tag_of}
-use Rattle.life_rle.specs.Text.{WordMeans}
-use Rattle.life_rle.specs.Faults.{IsNear, AreFine, IsFineWord, IsAtCount, IsNext, HasStray, GoesOn, IsTooFar, IsTooMany, AreNoCount, IsFault, StopsWith}
+use Rattle.rle_items.specs.declared.item.Item.{Item}
+use Rattle.rle_items.specs.declared.item.Tag.{Tag}
+use Rattle.rle_items.specs.declared.error.BodyError.{BodyError}
+use Rattle.rle_items.specs.declared.error.BodyError.TheVariants.{BadItem, BadCount, NoEnd, TooFar, TooMany, Memory}
+use Rattle.rle_items.specs.Numbers.{value}
+use Rattle.rle_items.specs.Items.{AreCells, live}
+use Rattle.rle_items.specs.Spelling.{SpellsItem, Spells, IsCount, IsNone, tag_of}
+use Rattle.rle_items.specs.Words.{WordMeans}
+use Rattle.rle_items.specs.Faults.{IsNear, AreFine, IsFineWord, IsAtCount, IsNext, HasStray, GoesOn, IsTooFar, IsTooMany, AreNoCount, IsFault, StopsWith}
 
 -- ---- digits, and a byte that is none
 

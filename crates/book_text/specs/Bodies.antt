@@ -2,8 +2,8 @@
 use Rattle.std.specs.Prelude.{◌≡◌, ℕ, true, ℤ, List, [], ◌∷◌, codes}
 use Rattle.life_plane.specs.Plane.{Plane, shift}
 use Rattle.life_cells.specs.Cells.{Cells, alive}
-use Rattle.life_rle.specs.Faults.{IsFineWord}
-use Rattle.life_rle.specs.Text.{WordMeans}
+use Rattle.rle_items.specs.Faults.{IsFineWord}
+use Rattle.rle_items.specs.Words.{WordMeans}
 use Rattle.book_parts.specs.Limits.{IsCoordinate, IsPlaced, IsName}
 use Rattle.book_parts.specs.declared.kind.RawKind.{RawKind}
 use Rattle.book_text.specs.Fields.{fields, IsNumber}

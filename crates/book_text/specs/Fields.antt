@@ -4,7 +4,7 @@ use Rattle.std.specs.Prelude.{Option}
 use Rattle.std.specs.declared.option.Option.TheVariants.{Some, None}
 use Rattle.std.specs.List.{slice_split}
 use denote.Ref.{Bor}
-use Rattle.life_rle.specs.Numbers.{IsNatural}
+use Rattle.rle_items.specs.Numbers.{IsNatural}
 
 -- the bytes of texts behind references
 abbrev pub texts : List (Bor (List ℕ)) → List (List ℕ)

@@ -9,7 +9,7 @@ ghost use Rattle.book_text.specs.Bodies.{SaysBody};
 
 use crate::settings::FARTHEST;
 use life_cells::{CellSet, NoMemory};
-use life_rle::{BodyError, read_body};
+use rle_items::{BodyError, read_body};
 use std::alloc::Global;
 
 /// The most live cells of all bodies of a book.

@@ -4,7 +4,7 @@ ghost use Rattle.std.specs.Prelude.{◌≡◌, ◌<◌, ◌≤◌, ◌^◌, true
 ghost use Rattle.std.specs.Char.{is_ascii_digit};
 ghost use Rattle.std.specs.List.{list_all};
 ghost use Rattle.std.specs.Str.{all_ascii_digits};
-ghost use Rattle.life_rle.specs.Numbers.{value, IsNatural};
+ghost use Rattle.rle_items.specs.Numbers.{value, IsNatural};
 ghost use Rattle.book_text.specs.Fields.{IsNumber, Reads};
 
 /// The most digits of a number.

@@ -45,7 +45,6 @@ rle_text (rle.TheVariants.BadCount at) = codes "count " ++ decimal at
 rle_text rle.TheVariants.NoEnd = codes "no end"
 rle_text (rle.TheVariants.TooFar at) = codes "far " ++ decimal at
 rle_text (rle.TheVariants.TooMany count) = codes "many " ++ decimal count
-rle_text (rle.TheVariants.NotYet at) = codes "not yet " ++ decimal at
 rle_text rle.TheVariants.Memory = codes "memory"
 
 abbrev pub fault_text : fault.LineFault → List ℕ

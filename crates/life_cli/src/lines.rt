@@ -47,7 +47,6 @@ fn rle_text(alloc: Global, fault: RleError) -> Result<String, AllocError>
         RleError::NoEnd => String::from_str(alloc, "no end"),
         RleError::TooFar { at } => format!(in alloc; "far {at}"),
         RleError::TooMany { count } => format!(in alloc; "many {count}"),
-        RleError::NotYet { at } => format!(in alloc; "not yet {at}"),
         RleError::Memory => String::from_str(alloc, "memory"),
     }
 }

@@ -4,12 +4,12 @@ use Rattle.std.specs.List.{list_all}
 use Rattle.std.specs.Str.{all_ascii_digits}
 use Rattle.std.specs.Str.Parse.{digits_value}
 use Rattle.std.specs.Fmt.{decimal}
-use Rattle.std.proofs.Common.{refl, ◌∙◌, arith}
+use Rattle.std.proofs.Common.{refl, ap, ◌∙◌, arith}
 use Rattle.std.proofs.lemmas.Fmt.{decimal_nonempty, digits_decimal, digits_value-decimal, length-decimal-le}
 use Rattle.std.proofs.lemmas.Str.Parse.{IsNumeralModel, numerals_by_value, tells_all_ascii_digits}
 use Rattle.std.proofs.lemmas.List.Folds.{list_all-append}
 use Rattle.std.proofs.lemmas.Bool.{ne_eqb, leb-true}
-use Rattle.life_rle.specs.Numbers.{IsDigits, IsNatural, value}
+use Rattle.rle_items.specs.Numbers.{IsDigits, IsNatural, value}
 
 -- ---- two tests at once
 
@@ -64,9 +64,9 @@ decimal_passes p f n h = digits_pass p f (decimal n) (digits_decimal own n h)
 abbrev pub is_inner : ℕ → Bool
 is_inner b = not (b == 10 || b == 13)
 
--- neither a carriage return nor `#`
+-- no `#`
 abbrev pub is_item_byte : ℕ → Bool
-is_item_byte b = not (b == 13 || b == 35)
+is_item_byte b = not (b == 35)
 
 -- neither a space nor a tab
 abbrev pub is_word_byte : ℕ → Bool
@@ -79,7 +79,7 @@ pub inner_digit : (b : ℕ) → 48 ≤ b → b ≤ 57 → is_inner b ≡ true
 inner_digit b h k = two_apart b 10 13 (λ e. omega arith) (λ e. omega arith)
 
 pub item_digit : (b : ℕ) → 48 ≤ b → b ≤ 57 → is_item_byte b ≡ true
-item_digit b h k = two_apart b 13 35 (λ e. omega arith) (λ e. omega arith)
+item_digit b h k = ap not (ne_eqb b 35 (λ e. omega arith))
 
 pub word_digit : (b : ℕ) → 48 ≤ b → b ≤ 57 → is_word_byte b ≡ true
 word_digit b h k = two_apart b 32 9 (λ e. omega arith) (λ e. omega arith)

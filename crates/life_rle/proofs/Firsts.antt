@@ -4,10 +4,10 @@ use Rattle.std.specs.List.{AllByRecursion, position, position_or_len}
 use Rattle.std.proofs.lemmas.List.{take-append-drop, get_or-take, drop_more, length-take}
 use Rattle.std.proofs.lemmas.List.Sums.{fails_before_first}
 use Rattle.std.proofs.lemmas.List.Quantifiers.{position-Some}
-use Rattle.life_rle.proofs.Counts.{past_end}
+use Rattle.rle_items.specs.NumberLaws.{past_end}
 
 -- what holds at each place holds of each byte
-all_at : (P : ℕ → Type 0) (bs : List ℕ) → ((k : ℕ) → k < length bs → P (get_or bs k 0)) → AllByRecursion P bs
+pub all_at : (P : ℕ → Type 0) (bs : List ℕ) → ((k : ℕ) → k < length bs → P (get_or bs k 0)) → AllByRecursion P bs
 all_at P [] h = tt
 all_at P (b ∷ bs) h = (h 0 (omega arith), all_at P bs (λ k l. h (suc k) (omega arith)))
 

@@ -11,9 +11,9 @@ use Rattle.life_cells.specs.Cells.{cell, cell_cmp, IsRising}
 use Rattle.life_cells.specs.Listed.{listed, same_cell}
 use Rattle.life_cells.specs.Boxes.{IsInRange, IsLeastBox}
 use Rattle.life_cells.specs.Order.{comes_before, rising_head, same_cell_is}
-use Rattle.life_rle.specs.declared.item.Item.{Item}
-use Rattle.life_rle.specs.declared.item.Tag.{Tag}
-use Rattle.life_rle.specs.declared.item.Tag.TheVariants.{Dead, Alive, RowEnd}
+use Rattle.rle_items.specs.declared.item.Item.{Item}
+use Rattle.rle_items.specs.declared.item.Tag.{Tag}
+use Rattle.rle_items.specs.declared.item.Tag.TheVariants.{Dead, Alive, RowEnd}
 use Rattle.life_rle.specs.Written.{IsFrame, IsTidy, IsTidyAfter}
 use Rattle.life_rle.specs.Drawn.{IsBehind, StartsAfter, IsTidyFrom}
 use Rattle.life_rle.proofs.Growing.{listed_here, either}

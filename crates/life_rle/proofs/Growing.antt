@@ -13,13 +13,13 @@ use Rattle.life_cells.specs.Boxes.{IsInRange}
 use Rattle.life_cells.specs.Listed.{listed, same_cell}
 use Rattle.life_cells.specs.Laws.{listed-append_at}
 use Rattle.life_cells.specs.Order.{same_cell_is, same_cell-itself, comes_before, rising_head, rising_tail}
-use Rattle.life_rle.specs.declared.item.Item.{Item}
-use Rattle.life_rle.specs.declared.item.Tag.{Tag}
-use Rattle.life_rle.specs.declared.item.Tag.TheVariants.{Dead, Alive, RowEnd}
-use Rattle.life_rle.specs.Items.{rows, columns, AreCells}
+use Rattle.rle_items.specs.declared.item.Item.{Item}
+use Rattle.rle_items.specs.declared.item.Tag.{Tag}
+use Rattle.rle_items.specs.declared.item.Tag.TheVariants.{Dead, Alive, RowEnd}
+use Rattle.rle_items.specs.Items.{rows, columns, AreCells}
 use Rattle.life_rle.specs.Written.{may_follow, IsTidyAfter}
 use Rattle.life_rle.specs.Drawn.{some_of, IsBehind, IsAhead, IsNext, IsGapInRow, IsGapDown, IsGap, HasGap, StartsAfter, IsTidyFrom, AreSmall}
-use Rattle.life_rle.proofs.Below.{cases_below}
+use Rattle.rle_items.specs.Below.{cases_below}
 use Rattle.life_rle.proofs.Made.{IsRun, none_made, made_front, made_some_live, made_some_run, cells_same, rows-some_longer, rows-some_ended, columns-some_longer, columns-some_ended}
 
 both_first : (a b : Bool) → (a && b) ≡ true → a ≡ true

@@ -2,6 +2,7 @@
 use Rattle.std.specs.Prelude.{◌≡◌, ℕ, ◌<◌, ◌≤◌, ◌^◌, Bool, true, false, not, ◌==◌, ℤ, pos, negsuc, neg_ℤ, ◌≤ℤ◌, List, [], ◌∷◌, ◌++◌, length, codes, filter}
 use Rattle.std.specs.List.{list_all, All}
 use Rattle.std.specs.Fmt.{decimal, signed_decimal}
+use Rattle.std.specs.Char.{is_ascii_digit}
 use Rattle.std.proofs.Common.{refl, sym, ap, ◌∙◌, arith, suc, subst, inl, inr, get_or}
 use Rattle.std.proofs.lemmas.Int.{ints}
 use Rattle.std.proofs.lemmas.List.{append_assoc}
@@ -9,8 +10,10 @@ use Rattle.std.proofs.lemmas.List.Splits.{slice_split_none}
 use Rattle.std.proofs.lemmas.List.Sums.{AllPass-from_list_all}
 use Rattle.std.proofs.lemmas.Bool.{ne_eqb}
 use Rattle.life_cells.specs.declared.cell.Cell.{Cell}
-use Rattle.life_rle.specs.Numbers.{IsWhole}
-use Rattle.life_rle.specs.Text.{is_blank_byte, IsBlank, words, IsPlaceIn, NamesRule, IsHeader}
+use Rattle.rle_items.specs.Numbers.{IsWhole}
+use Rattle.life_rle.specs.Blanks.{is_blank_byte, IsBlank}
+use Rattle.life_rle.specs.Header.{IsPastValue, GivesRule, NamesLife, IsHeader}
+use Rattle.life_rle.specs.Text.{words, IsPlaceIn}
 use Rattle.life_rle.specs.Written.{place_line, header_line}
 use Rattle.life_rle.proofs.Bytes.{both, not_false, all_append, decimal_natural, decimal_digits, decimal_value, decimal_passes, small_fits, is_inner, inner_digit, is_word_byte, word_digit}
 
@@ -85,33 +88,45 @@ header_text_inner width height w h =
 blank_one : IsBlank (32 ∷ [])
 blank_one = (refl, tt)
 
-rule_named : NamesRule (codes ", rule = B3/S23")
-rule_named = record {
-  gap_1 = [];
-  gap_2 = 32 ∷ [];
-  gap_3 = 32 ∷ [];
-  gap_4 = 32 ∷ [];
-  gap_5 = [];
-  name = codes "B3/S23";
-  whole = refl;
-  blanks = (tt, (blank_one, (blank_one, (blank_one, (tt, tt)))));
-  life = inl refl;
+no_digit_first : (b : ℕ) (more : List ℕ) → is_ascii_digit b ≡ false → (c : ℕ) (cs : List ℕ) → b ∷ more ≡ c ∷ cs → is_ascii_digit c ≡ false
+no_digit_first b more other c cs e = let same : b ≡ c = cc in subst (λ (x : ℕ). is_ascii_digit x ≡ false) same other
+
+-- ` = n` before a byte that is no digit
+value_is_read : (n : ℕ) (b : ℕ) (more : List ℕ) → n < 10 ^ 18 → is_ascii_digit b ≡ false → IsPastValue (codes " = " ++ (decimal n ++ (b ∷ more))) (b ∷ more)
+value_is_read n b more h other = record {
+  at_number = 32 ∷ (decimal n ++ (b ∷ more));
+  sign = record { gap = 32 ∷ []; whole = refl; blank = blank_one };
+  number = record { gap = 32 ∷ []; digits = decimal n; number = n; whole = refl; blank = blank_one; is = decimal_natural n h; ended = no_digit_first b more other };
 }
 
-pub header_is_read : (width height : ℕ) → width < 10 ^ 18 → height < 10 ^ 18 → IsHeader (header_text width height)
-header_is_read width height w h = record {
-  gap_1 = 32 ∷ [];
-  gap_2 = 32 ∷ [];
-  gap_3 = [];
-  gap_4 = 32 ∷ [];
-  gap_5 = 32 ∷ [];
-  gap_6 = 32 ∷ [];
-  width = decimal width;
-  height = decimal height;
-  rule = codes ", rule = B3/S23";
-  whole = simp append_assoc;
-  blanks = (blank_one, (blank_one, (tt, (blank_one, (blank_one, (blank_one, tt))))));
-  width_is = (width, decimal_natural width w);
-  height_is = (height, decimal_natural height h);
-  rule_is = inr rule_named;
+rule_is_read : GivesRule (codes ", rule = B3/S23") (codes " B3/S23")
+rule_is_read = record {
+  behind_comma = codes " rule = B3/S23";
+  behind_rule = codes " = B3/S23";
+  comma = record { gap = []; whole = refl; blank = tt };
+  rule = record { gap = 32 ∷ []; whole = refl; blank = blank_one };
+  sign = record { gap = 32 ∷ []; whole = refl; blank = blank_one };
 }
+
+life_is_named : NamesLife (codes " B3/S23")
+life_is_named = record { gap_1 = 32 ∷ []; name = codes "B3/S23"; gap_2 = []; whole = refl; blank_1 = blank_one; blank_2 = tt; life = inl refl }
+
+pub header_is_read : (width height : ℕ) → width < 10 ^ 18 → height < 10 ^ 18 → IsHeader (header_text width height)
+header_is_read width height w h =
+    let last : List ℕ = codes ", rule = B3/S23" in
+    let at_height : List ℕ = codes " = " ++ (decimal height ++ last) in
+    record {
+      rest = codes ", rule = B3/S23";
+      size = record {
+        behind_x = codes " = " ++ (decimal width ++ (codes ", y" ++ at_height));
+        behind_width = codes ", y" ++ at_height;
+        behind_comma = codes " y" ++ at_height;
+        behind_y = at_height;
+        x = simp append_assoc;
+        width = value_is_read width 44 (codes " y" ++ at_height) w refl;
+        comma = record { gap = []; whole = refl; blank = tt };
+        y = record { gap = 32 ∷ []; whole = refl; blank = blank_one };
+        height = value_is_read height 44 (codes " rule = B3/S23") h refl;
+      };
+      rule = inr (codes " B3/S23", (rule_is_read, life_is_named));
+    }

@@ -1,21 +1,16 @@
--- Lemmas of the reader: digits, items and cells.
-pub mod Below
-pub mod Counts
-pub mod Fronts
-pub mod Behind
-pub mod Drawn
-pub mod SoFar
-pub mod Headers
-pub mod OneReading
-pub mod OneMeaning
+-- Lemmas of the reader: lines, the header, comments and items.
 pub mod Firsts
 pub mod Lined
+pub mod Headers
 pub mod Starting
 pub mod Placing
-pub mod BeforeEnd
-pub mod Beginning
+pub mod Seen
+pub mod Skipped
+pub mod TagPlaces
 pub mod TextSoFar
 pub mod Meaning
+pub mod OneMeaning
+pub mod OneFault
 pub mod OneText
 -- Lemmas of the writer.
 pub mod Made

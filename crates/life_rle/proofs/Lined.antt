@@ -2,12 +2,13 @@
 use Rattle.std.proofs.Common.{◌≡◌, ℕ, ◌+◌, ◌<◌, ◌≤◌, ◌⊎◌, true, false, List, [], ◌∷◌, ◌++◌, length, get_or, refl, sym, ap, ◌∙◌, subst, inl, inr, arith, eqb}
 use Rattle.std.specs.List.{AllByRecursion, All, slice_split, position_or_len}
 use Rattle.std.specs.Str.Lines.{lines, lines_of_parts, strip_carriage_return}
-use Rattle.std.proofs.lemmas.List.{append_assoc, append-nil, drop_all, length-take, length-append}
+use Rattle.std.proofs.lemmas.List.{append_assoc, append-nil, drop_all, length-take, length-append, get_or-take}
 use Rattle.std.proofs.lemmas.List.Splits.{slice_split_first, slice_split_none}
 use Rattle.std.proofs.lemmas.List.Elements.{All-from_get_or}
 use Rattle.std.proofs.lemmas.List.Sums.{split_at_first, passes_at_first, fails_before_first}
 use Rattle.std.proofs.lemmas.Bool.{cases_lt, ne_eqb, eqb-true, eq-eqb}
 use Rattle.life_rle.specs.Lines.{is_line_feed, front, first_line, behind, BeginsWithLines, EndsWith}
+use Rattle.life_rle.proofs.Firsts.{all_at}
 use Rattle.life_rle.proofs.Lining.{split_some}
 
 -- ---- one line
@@ -42,6 +43,13 @@ has_no_feed text past =
 
 pub feed_or_not : (text : List ℕ) → HasFeed text ⊎ HasNoFeed text
 feed_or_not text = elim (cases_lt (position_or_len is_line_feed text) (length text)) [ inl h ↦ inl (has_feed text h) | inr h ↦ inr (has_no_feed text h) ]
+
+-- no line feed stands before the first, nor in a text without one
+pub front_inner : (text : List ℕ) → AllByRecursion (λ b. is_line_feed b ≡ false) (front text)
+front_inner text = all_at (λ b. is_line_feed b ≡ false) (front text) (λ k l. let below : k < position_or_len is_line_feed text = omega (arith, length-take (position_or_len is_line_feed text) text) in rw get_or-take (fails_before_first is_line_feed text k 0 below))
+
+pub whole_inner : (text : List ℕ) → length text ≤ position_or_len is_line_feed text → AllByRecursion (λ b. is_line_feed b ≡ false) text
+whole_inner text past = all_at (λ b. is_line_feed b ≡ false) text (λ k l. fails_before_first is_line_feed text k 0 (omega arith))
 
 lines_more : (line : List ℕ) (parts : List (List ℕ)) (part : List ℕ) (more : List (List ℕ)) → parts ≡ part ∷ more → lines_of_parts (line ∷ parts) ≡ strip_carriage_return line ∷ lines_of_parts parts
 lines_more line parts part more e = subst (λ (ps : List (List ℕ)). lines_of_parts (line ∷ ps) ≡ strip_carriage_return line ∷ lines_of_parts ps) (sym e) refl

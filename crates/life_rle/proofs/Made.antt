@@ -5,11 +5,11 @@ use Rattle.std.proofs.lemmas.List.{append-nil, append_assoc}
 use Rattle.std.proofs.lemmas.Int.{ints}
 use Rattle.life_plane.specs.Plane.{Plane}
 use Rattle.life_cells.specs.declared.cell.Cell.{Cell}
-use Rattle.life_rle.specs.declared.item.Item.{Item}
-use Rattle.life_rle.specs.declared.item.Tag.{Tag}
-use Rattle.life_rle.specs.declared.item.Tag.TheVariants.{Alive, RowEnd}
-use Rattle.life_rle.specs.Items.{is_row_end, is_alive, rows, columns, IsMade, AreCells}
-use Rattle.life_rle.specs.ItemLaws.{rows_push, columns_push_end, columns_push_other, made_push_new, made_push_cases, no_item}
+use Rattle.rle_items.specs.declared.item.Item.{Item}
+use Rattle.rle_items.specs.declared.item.Tag.{Tag}
+use Rattle.rle_items.specs.declared.item.Tag.TheVariants.{Alive, RowEnd}
+use Rattle.rle_items.specs.Items.{is_row_end, is_alive, rows, columns, IsMade, AreCells}
+use Rattle.rle_items.specs.ItemLaws.{rows_push, columns_push_end, columns_push_other, made_push_new, made_push_cases, no_item}
 use Rattle.life_rle.specs.Drawn.{some_of}
 
 -- ---- with some items at the end

@@ -1,116 +1,22 @@
 -- A text says one place and one list of items.
-use Rattle.std.proofs.Common.{◌≡◌, ◌≢◌, ℕ, true, false, not, List, [], ◌∷◌, ◌++◌, refl, sym, ap, ◌∙◌, subst, inl, inr, arith, Option, Some, None, MatchOption, codes, ℤ, pos, neg_ℤ, filter, eqb}
+use Rattle.std.proofs.Common.{◌≡◌, ◌≢◌, ℕ, true, List, [], ◌∷◌, ◌++◌, refl, sym, ap, ◌∙◌, subst, inl, inr, arith, Option, Some, None, MatchOption, codes, ℤ, pos, neg_ℤ}
 use Rattle.std.specs.List.{AllByRecursion, find}
 use Rattle.std.specs.Str.{all_ascii_digits}
-use Rattle.std.specs.Char.{is_ascii_digit}
-use Rattle.std.proofs.lemmas.List.{append_assoc, append-nil, append_cancel_left}
-use Rattle.std.proofs.lemmas.List.Elements.{filter-append}
-use Rattle.std.proofs.lemmas.Bool.{and_parts, eqb-true, or_cases, cases_Bool, ne_eqb}
+use Rattle.std.proofs.lemmas.List.{append_assoc, append_cancel_left}
+use Rattle.std.proofs.lemmas.Bool.{and_parts}
 use Rattle.life_plane.specs.Plane.{Plane}
 use Rattle.life_cells.specs.Cells.{cell}
 use Rattle.life_cells.specs.declared.cell.Cell.{Cell}
-use Rattle.life_rle.specs.declared.item.Item.{Item}
-use Rattle.life_rle.specs.declared.item.Tag.{Tag}
-use Rattle.life_rle.specs.Numbers.{value, IsWhole}
-use Rattle.life_rle.specs.Items.{AreCells}
-use Rattle.life_rle.specs.Spelling.{SpellsItem, Spells, IsNone, IsWhite, is_white, tag_of}
-use Rattle.life_rle.specs.Text.{IsPassedOver, IsPlaceWord, IsPlaceIn, IsPlace, gives_place, words, IsHeader, uncommented, Says, Means}
-use Rattle.life_rle.specs.SpellingLaws.{digit_range, count_digits}
-use Rattle.life_rle.proofs.OneReading.{one_list, same_cells}
-
--- ---- without white space
-
--- the bytes that are no white space
-abbrev ink : List ℕ → List ℕ
-ink text = filter (λ b. not (is_white b)) text
-
-pub kept : (b : ℕ) (bs : List ℕ) → is_white b ≡ false → ink (b ∷ bs) ≡ b ∷ ink bs
-kept b bs h = rw h refl
-
-white_gone : (gap : List ℕ) → IsWhite gap → ink gap ≡ []
-white_gone [] h = refl
-white_gone (b ∷ bs) h = rw h.0 (white_gone bs h.1)
-
-digit_no_white : (b : ℕ) → is_ascii_digit b ≡ true → is_white b ≡ false
-digit_no_white b h =
-    let range = digit_range b h in
-    rw (ne_eqb b 32 (λ e. omega arith), ne_eqb b 9 (λ e. omega arith), ne_eqb b 10 (λ e. omega arith), ne_eqb b 13 (λ e. omega arith)) refl
-
-digits_stay : (ds : List ℕ) → all_ascii_digits ds ≡ true → ink ds ≡ ds
-digits_stay [] h = refl
-digits_stay (d ∷ ds) h = let both = and_parts _ _ h in kept d ds (digit_no_white d both.0) ∙ ap (λ (bs : List ℕ). d ∷ bs) (digits_stay ds both.1)
-
-no_tag_at : (b n : ℕ) (tag : Tag) → tag_of n ≡ None → eqb b n ≡ true → tag_of b ≡ Some tag → ⊥
-no_tag_at b n tag none e is = let same : b ≡ n = eqb-true b n e in let at : tag_of b ≡ None = ap tag_of same ∙ none in cc
-
-white_no_tag : (b : ℕ) (tag : Tag) → tag_of b ≡ Some tag → is_white b ≡ true → ⊥
-white_no_tag b tag is white = elim (or_cases _ _ white) [
-  | inl h ↦ elim (or_cases _ _ h) [ inl k ↦ no_tag_at b 32 tag refl k is | inr k ↦ no_tag_at b 9 tag refl k is ]
-  | inr h ↦ elim (or_cases _ _ h) [ inl k ↦ no_tag_at b 10 tag refl k is | inr k ↦ no_tag_at b 13 tag refl k is ]
-]
-
-pub tag_no_white : (b : ℕ) (tag : Tag) → tag_of b ≡ Some tag → is_white b ≡ false
-tag_no_white b tag is = elim (cases_Bool (is_white b)) [ inl h ↦ absurd (white_no_tag b tag is h) | inr h ↦ h ]
-
--- an item without its white space is the same item
-item_ink : (first : List ℕ) (item : Item) → SpellsItem IsWhite first item → SpellsItem IsNone (ink first) item
-item_ink first item s =
-    let digits = digits_stay s.digits (count_digits s.digits item.count s.count) in
-    let parts : ink first ≡ ((ink s.before ++ ink s.digits) ++ ink s.between) ++ ink (s.tag ∷ []) =
-    ap ink s.whole ∙ filter-append _ ((s.before ++ s.digits) ++ s.between) (s.tag ∷ [])
-    ∙ ap (λ (bs : List ℕ). bs ++ ink (s.tag ∷ [])) (filter-append _ (s.before ++ s.digits) s.between ∙ ap (λ (bs : List ℕ). bs ++ ink s.between) (filter-append _ s.before s.digits)) in
-    record {
-      before = [];
-      digits = s.digits;
-      between = [];
-      tag = s.tag;
-      whole = parts ∙ (λ k. ((white_gone s.before s.gap_before k ++ digits k) ++ white_gone s.between s.gap_between k) ++ kept s.tag [] (tag_no_white s.tag item.tag s.tag_is) k);
-      gap_before = refl;
-      gap_between = refl;
-      count = s.count;
-      tag_is = s.tag_is;
-    }
-
-spells_ink : (text : List ℕ) (items : List Item) → Spells IsWhite text items → Spells IsNone (ink text) items
-spells_ink text [] h = ap ink h
-spells_ink text (item ∷ items) h =
-    (ink h.0, (ink h.1.0, (ap ink h.1.1.0 ∙ filter-append _ h.0 h.1.0, (item_ink h.0 item h.1.1.1.0, spells_ink h.1.0 items h.1.1.1.1))))
-
-body_ink : (body written gap ignored : List ℕ) → body ≡ (written ++ gap) ++ (33 ∷ ignored) → IsWhite gap → ink body ≡ ink written ++ (33 ∷ ink ignored)
-body_ink body written gap ignored e g =
-    ap ink e ∙ filter-append _ (written ++ gap) (33 ∷ ignored)
-    ∙ ap (λ (bs : List ℕ). bs ++ (33 ∷ ink ignored)) (filter-append _ written gap ∙ ap (λ (bs : List ℕ). ink written ++ bs) (white_gone gap g) ∙ append-nil (ink written))
-
--- ---- one header
-
-record Begins (b : ℕ) (line : List ℕ) : Type 0 where
-  rest : List ℕ
-  is : line ≡ b ∷ rest
-
-header_begins : (line : List ℕ) → IsHeader line → Begins 120 line
-header_begins line h = record { rest = _; is = h.whole }
-
-x_not_passed : (rest : List ℕ) → IsPassedOver (120 ∷ rest) → ⊥
-x_not_passed rest (inl h) = cc
-x_not_passed rest (inr h) = let no = h.0 in cc
-
-pub header_not_passed : (line : List ℕ) → IsHeader line → IsPassedOver line → ⊥
-header_not_passed line h p = let b = header_begins line h in x_not_passed b.rest (subst IsPassedOver b.is p)
-
-record IsSameText (head other : List (List ℕ)) (body bodies : List (List ℕ)) : Type 0 where
-  heads : head ≡ other
-  rest : body ≡ bodies
-
-one_header : (head other : List (List ℕ)) (h k : List ℕ) (body bodies : List (List ℕ)) → AllByRecursion IsPassedOver head → AllByRecursion IsPassedOver other
-    → ¬ IsPassedOver h → ¬ IsPassedOver k → head ++ (h ∷ body) ≡ other ++ (k ∷ bodies) → IsSameText head other body bodies
-one_header [] [] h k body bodies p q n m e = record { heads = refl; rest = cc }
-one_header [] (l ∷ other) h k body bodies p q n m e = let same : h ≡ l = cc in absurd (n (subst IsPassedOver (sym same) q.0))
-one_header (l ∷ head) [] h k body bodies p q n m e = let same : l ≡ k = cc in absurd (m (subst IsPassedOver same p.0))
-one_header (l ∷ head) (r ∷ other) h k body bodies p q n m e =
-    let first : l ≡ r = cc in
-    let more : head ++ (h ∷ body) ≡ other ++ (k ∷ bodies) = cc in
-    let rest = one_header head other h k body bodies p.1 q.1 n m more in
-    record { heads = (λ i. first i ∷ rest.heads i); rest = rest.rest }
+use Rattle.rle_items.specs.declared.item.Item.{Item}
+use Rattle.rle_items.specs.Numbers.{value, IsWhole}
+use Rattle.rle_items.specs.Items.{AreCells}
+use Rattle.rle_items.specs.Spelling.{IsWhite}
+use Rattle.rle_items.specs.SpellingLaws.{digit_range, white_kind, one_list}
+use Rattle.rle_items.specs.DrawnCells.{same_cells}
+use Rattle.life_rle.specs.Lines.{behind}
+use Rattle.life_rle.specs.Blanks.{IsPassedOver, blanked}
+use Rattle.life_rle.specs.Text.{IsPlaceWord, IsPlaceIn, IsPlace, gives_place, words, IsAtHeader, HasBody, Says, Means}
+use Rattle.life_rle.proofs.Lined.{one_rest, IsSameRest}
 
 -- ---- one place
 
@@ -169,17 +75,24 @@ one_place_found (Some line) p q g h = one_place_in (words line) p q g h
 pub one_place : (head : List (List ℕ)) (p q : Cell) → IsPlace head p → IsPlace head q → p ≡ q
 one_place head p q g h = one_place_found (find gives_place head) p q g h
 
+-- ---- one body
+
+pub one_head : (text : List ℕ) (head other : List (List ℕ)) (rest last : List ℕ) → IsAtHeader text head rest → IsAtHeader text other last → IsSameRest head other rest last
+one_head text head other rest last p q = one_rest IsPassedOver text head other rest last p.lines_are q.lines_are p.passed q.passed p.other q.other
+
+pub one_body : (text : List ℕ) (place other : Cell) (body last : List ℕ) → HasBody text place body → HasBody text other last → (place ≡ other) × (body ≡ last)
+one_body text place other body last p q =
+    let same = one_head text p.head q.head p.rest q.rest p.at_header q.at_header in
+    (one_place q.head place other (subst (λ (head : List (List ℕ)). IsPlace head place) same.heads p.place_is) q.place_is, sym p.body_is ∙ ap behind same.rests ∙ q.body_is)
+
 -- ---- the laws
 
 pub one_saying : (text : List ℕ) (place other : Cell) (items others : List Item) → Says text place items → Says text other others → (place ≡ other) × (items ≡ others)
 one_saying text place other items others p q =
-    let same = one_header p.head q.head p.header q.header p.body q.body p.head_is q.head_is (header_not_passed p.header p.header_is) (header_not_passed q.header q.header_is) (sym p.lines_are ∙ q.lines_are) in
-    let left = body_ink (uncommented p.body) p.written p.gap p.ignored p.body_is p.gap_is in
-    let right = body_ink (uncommented q.body) q.written q.gap q.ignored q.body_is q.gap_is in
-    let whole : ink p.written ++ (33 ∷ ink p.ignored) ≡ ink q.written ++ (33 ∷ ink q.ignored) = sym left ∙ ap (λ (body : List (List ℕ)). ink (uncommented body)) same.rest ∙ right in (
-      one_place q.head place other (subst (λ (head : List (List ℕ)). IsPlace head place) same.heads p.place_is) q.place_is,
-      one_list items others (ink p.written) (ink q.written) (ink p.ignored) (ink q.ignored) (spells_ink p.written items p.items_are) (spells_ink q.written others q.items_are) whole,
-    )
+    let same = one_body text place other p.body q.body p.has_body q.has_body in
+    let whole : p.written ++ (p.gap ++ (33 ∷ p.ignored)) ≡ q.written ++ (q.gap ++ (33 ∷ q.ignored)) =
+    sym (append_assoc p.written p.gap (33 ∷ p.ignored)) ∙ sym p.body_is ∙ ap blanked same.1 ∙ q.body_is ∙ append_assoc q.written q.gap (33 ∷ q.ignored) in
+    (same.0, one_list IsWhite white_kind items others p.written q.written p.gap q.gap p.ignored q.ignored p.items_are q.items_are p.gap_is q.gap_is whole)
 
 pub one_plane : (text : List ℕ) (s t : Plane) → Means text s → Means text t → s ≡ t
 one_plane text s t p q =

@@ -9,12 +9,12 @@ use Rattle.life_cells.specs.declared.cell.Cell.{Cell}
 use Rattle.life_cells.specs.declared.bounds.Bounds.{Bounds}
 use Rattle.life_cells.specs.Cells.{cell}
 use Rattle.life_cells.specs.Boxes.{IsLeastBox}
-use Rattle.life_rle.specs.declared.item.Item.{Item}
-use Rattle.life_rle.specs.declared.item.Tag.{Tag}
-use Rattle.life_rle.specs.declared.item.Tag.TheVariants.{Dead, Alive, RowEnd}
-use Rattle.life_rle.specs.Items.{is_row_end, is_alive, rows_of, rows, columns, IsMade, AreCells}
+use Rattle.rle_items.specs.declared.item.Item.{Item}
+use Rattle.rle_items.specs.declared.item.Tag.{Tag}
+use Rattle.rle_items.specs.declared.item.Tag.TheVariants.{Dead, Alive, RowEnd}
+use Rattle.rle_items.specs.Items.{is_row_end, is_alive, rows_of, rows, columns, IsMade, AreCells}
 use Rattle.life_rle.specs.Written.{may_follow, IsTidyAfter, IsTidy, IsTidyBody, IsFrame, IsRleText, IsBodyText, place_line, note_line, header_line, folded, pieces}
-use Rattle.life_rle.specs.ItemLaws.{rows_push, columns_push_end, columns_push_other}
+use Rattle.rle_items.specs.ItemLaws.{rows_push, columns_push_end, columns_push_other}
 use Rattle.life_rle.proofs.Made.{made_front, made_last, made_live, made_dead, none_made}
 
 -- ---- what items make from a cursor on

@@ -9,13 +9,14 @@ use Rattle.std.proofs.lemmas.List.Elements.{All-from_recursion}
 use Rattle.std.proofs.lemmas.Bool.{eqb-true, eq-eqb, ne_eqb, cases_lt}
 use Rattle.life_cells.specs.Cells.{cell}
 use Rattle.life_cells.specs.declared.cell.Cell.{Cell}
-use Rattle.life_rle.specs.Numbers.{value, IsDigits, IsWhole}
-use Rattle.life_rle.specs.Text.{is_blank_byte, words, IsPlaceWord, IsPlaceIn}
-use Rattle.life_rle.specs.Reach.{IsNearZero}
+use Rattle.rle_items.specs.Numbers.{value, IsDigits, IsWhole}
+use Rattle.life_rle.specs.Blanks.{is_blank_byte}
+use Rattle.life_rle.specs.Text.{words, IsPlaceWord, IsPlaceIn}
+use Rattle.rle_items.specs.Reach.{IsNearZero}
 use Rattle.life_rle.specs.Told.{is_comma, IsCommaSplit, TellsSize, TellsNumber, TellsPlace, IsWordSplit, IsOneWord}
-use Rattle.life_rle.specs.Faults.{IsAtCount}
-use Rattle.life_rle.specs.SpellingLaws.{one_count}
-use Rattle.life_rle.proofs.Counts.{value_more}
+use Rattle.rle_items.specs.Faults.{IsAtCount}
+use Rattle.rle_items.specs.SpellingLaws.{one_count}
+use Rattle.rle_items.specs.NumberLaws.{value_more}
 use Rattle.life_rle.proofs.Firsts.{cut_at, none_passes}
 use Rattle.life_rle.proofs.OneMeaning.{one_comma, no_comma_within, no_minus}
 

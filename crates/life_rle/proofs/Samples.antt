@@ -2,11 +2,11 @@
 use Rattle.std.specs.Prelude.{◌≡◌, ◌^◌, true, ℤ, pos, neg_ℤ, ◌≤ℤ◌, List, [], ◌∷◌, ◌++◌}
 use Rattle.std.specs.List.{AllByRecursion}
 use Rattle.std.proofs.Common.{sym, ◌∙◌, subst}
+use Rattle.rle_items.specs.Words.{IsNotNegative}
 use Rattle.life_cells.specs.declared.cell.Cell.{Cell}
 use Rattle.life_cells.specs.Cells.{Cells, cell, alive, from_list}
 use Rattle.life_cells.specs.Laws.{alive-from_list_at}
 use Rattle.life_cells.specs.Boxes.{IsInRange}
-use Rattle.life_rle.specs.Written.{IsNotNegative}
 use Rattle.life_rle.proofs.Framing.{each_of}
 
 pub record IsClose (c : Cell) : Type 0 where

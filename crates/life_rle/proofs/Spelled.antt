@@ -1,4 +1,5 @@
 -- What is written for items spells them.
+use Rattle.rle_items.specs.Words.{item_text, tag_byte}
 use Rattle.std.specs.Prelude.{◌≡◌, ℕ, ◌+◌, ◌<◌, ◌^◌, Bool, true, false, ◌==◌, List, [], ◌∷◌, ◌++◌, length, nat_le, if◌then◌else◌, map, flat_map}
 use Rattle.std.specs.declared.option.Option.TheVariants.{Some}
 use Rattle.std.specs.List.{list_all}
@@ -7,12 +8,12 @@ use Rattle.std.proofs.Common.{refl, sym, ap, ◌∙◌, arith, subst, inl, inr}
 use Rattle.std.proofs.lemmas.List.{append-nil, append_assoc}
 use Rattle.std.proofs.lemmas.List.Concat.{flat_map-append}
 use Rattle.std.proofs.lemmas.Bool.Decides.{eqb_tells}
-use Rattle.life_rle.specs.declared.item.Item.{Item}
-use Rattle.life_rle.specs.declared.item.Tag.{Tag}
-use Rattle.life_rle.specs.declared.item.Tag.TheVariants.{Dead, Alive, RowEnd}
-use Rattle.life_rle.specs.Numbers.{IsNatural}
-use Rattle.life_rle.specs.Spelling.{SpellsItemApart, SpellsApart, Spells, AreLineFeeds, IsNone, IsCount, tag_of}
-use Rattle.life_rle.specs.Written.{tag_byte, item_text, folded, pieces}
+use Rattle.rle_items.specs.declared.item.Item.{Item}
+use Rattle.rle_items.specs.declared.item.Tag.{Tag}
+use Rattle.rle_items.specs.declared.item.Tag.TheVariants.{Dead, Alive, RowEnd}
+use Rattle.rle_items.specs.Numbers.{IsNatural}
+use Rattle.rle_items.specs.Spelling.{SpellsItem, Spells, IsNone, IsWhite, IsCount, tag_of}
+use Rattle.life_rle.specs.Written.{folded, pieces}
 use Rattle.life_rle.specs.Drawn.{AreSmall}
 use Rattle.life_rle.proofs.Bytes.{both, all_append, decimal_natural, decimal_passes, small_fits, is_item_byte, item_digit}
 
@@ -38,15 +39,15 @@ count_spelled n p h =
     ]
 
 -- an item's text behind a gap
-pub item_spelled : (Gap : List ℕ → Type 0) (gap : List ℕ) (i : Item) → Gap gap → 0 < i.count → i.count < 10 ^ 18 → SpellsItemApart Gap IsNone (gap ++ item_text i) i
-item_spelled Gap gap i g p h = record {
+pub item_spelled : (Gap : List ℕ → Type 0) → Gap [] → (gap : List ℕ) (i : Item) → Gap gap → 0 < i.count → i.count < 10 ^ 18 → SpellsItem Gap (gap ++ item_text i) i
+item_spelled Gap none gap i g p h = record {
   before = gap;
   digits = count_text i.count;
   between = [];
   tag = tag_byte i.tag;
   whole = sym (append_assoc gap (count_text i.count) (tag_byte i.tag ∷ [])) ∙ ap (λ t. t ++ (tag_byte i.tag ∷ [])) (sym (append-nil (gap ++ count_text i.count)));
   gap_before = g;
-  gap_between = refl;
+  gap_between = none;
   count = count_spelled i.count p h;
   tag_is = tag_is_read i.tag;
 }
@@ -55,7 +56,7 @@ item_spelled Gap gap i g p h = record {
 
 pub word_spelled : (items : List Item) → AreSmall items → Spells IsNone (flat_map (λ piece. piece) (map item_text items)) items
 word_spelled [] h = refl
-word_spelled (i ∷ is) h = (item_text i, (flat_map (λ piece. piece) (map item_text is), (refl, (item_spelled IsNone [] i refl h.0.0 h.0.1, word_spelled is h.1))))
+word_spelled (i ∷ is) h = (item_text i, (flat_map (λ piece. piece) (map item_text is), (refl, (item_spelled IsNone refl [] i refl h.0.0 h.0.1, word_spelled is h.1))))
 
 pub word_whole : (items : List Item) → flat_map (λ piece. piece) (pieces items) ≡ flat_map (λ piece. piece) (map item_text items) ++ (33 ∷ [])
 word_whole items = flat_map-append (λ piece. piece) (map item_text items) ((33 ∷ []) ∷ [])
@@ -67,19 +68,19 @@ pub record IsItemsText (text : List ℕ) (items : List Item) : Type 0 where
   pub written : List ℕ
   pub gap : List ℕ
   pub whole : text ≡ (written ++ gap) ++ (33 ∷ [])
-  pub gap_is : AreLineFeeds gap
-  pub spelled : SpellsApart AreLineFeeds IsNone written items
+  pub gap_is : IsWhite gap
+  pub spelled : Spells IsWhite written items
 
-no_item : (gap : List ℕ) → AreLineFeeds gap → IsItemsText (gap ++ (33 ∷ [])) []
+no_item : (gap : List ℕ) → IsWhite gap → IsItemsText (gap ++ (33 ∷ [])) []
 no_item gap g = record { written = []; gap = gap; whole = refl; gap_is = g; spelled = refl }
 
-one_more : (gap rest : List ℕ) (i : Item) (is : List Item) → AreLineFeeds gap → 0 < i.count → i.count < 10 ^ 18 → IsItemsText rest is → IsItemsText ((gap ++ item_text i) ++ rest) (i ∷ is)
+one_more : (gap rest : List ℕ) (i : Item) (is : List Item) → IsWhite gap → 0 < i.count → i.count < 10 ^ 18 → IsItemsText rest is → IsItemsText ((gap ++ item_text i) ++ rest) (i ∷ is)
 one_more gap rest i is g p h t = record {
   written = (gap ++ item_text i) ++ t.written;
   gap = t.gap;
   whole = ap (λ r. (gap ++ item_text i) ++ r) t.whole ∙ sym (append_assoc (gap ++ item_text i) (t.written ++ t.gap) (33 ∷ [])) ∙ ap (λ r. r ++ (33 ∷ [])) (sym (append_assoc (gap ++ item_text i) t.written t.gap));
   gap_is = t.gap_is;
-  spelled = (gap ++ item_text i, (t.written, (refl, (item_spelled AreLineFeeds gap i g p h, t.spelled))));
+  spelled = (gap ++ item_text i, (t.written, (refl, (item_spelled IsWhite tt gap i g p h, t.spelled))));
 }
 
 pub folded_spelled : (column : ℕ) (items : List Item) → AreSmall items → IsItemsText (folded column (pieces items)) items

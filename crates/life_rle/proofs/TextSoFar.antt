@@ -1,30 +1,31 @@
 -- A text's items that are read up to a rest.
 use Rattle.std.proofs.Common.{◌≡◌, ℕ, ◌<◌, ◌≤◌, ◌^◌, true, List, [], ◌∷◌, ◌++◌, length, refl, sym, ap, ◌∙◌, subst, inl, inr, arith, pos, ℤ, ◌+ℤ◌, ◌≤ℤ◌}
 use Rattle.std.proofs.lemmas.Int.{ints}
-use Rattle.std.proofs.lemmas.List.{append_assoc, append-nil, length-append}
+use Rattle.std.proofs.lemmas.List.{append_assoc, length-append}
 use Rattle.std.proofs.lemmas.Bool.{cases_Bool}
 use Rattle.life_plane.specs.Plane.{Plane}
 use Rattle.life_cells.specs.declared.cell.Cell.{Cell}
 use Rattle.life_cells.specs.Cells.{cell, from_list}
 use Rattle.life_cells.specs.Boxes.{IsInRange}
-use Rattle.life_cells.specs.Laws.{alive-from_list}
-use Rattle.life_rle.specs.declared.item.Item.{Item}
-use Rattle.life_rle.specs.declared.item.Tag.TheVariants.{Alive}
-use Rattle.life_rle.specs.declared.cursor.Cursor.{Cursor}
+use Rattle.life_cells.specs.Laws.{alive-from_list, in_order-from_list}
+use Rattle.rle_items.specs.declared.item.Item.{Item}
+use Rattle.rle_items.specs.declared.item.Tag.TheVariants.{Alive}
+use Rattle.rle_items.specs.declared.cursor.Cursor.{Cursor}
 use Rattle.life_rle.specs.declared.error.RleError.{RleError}
-use Rattle.life_rle.specs.declared.error.RleError.TheVariants.{NoHeader, BadHeader, BadRule, BadItem, BadCount, NoEnd, TooFar, TooMany, NotYet, Memory}
-use Rattle.life_rle.specs.Items.{rows_of, live, is_row_end, AreCells}
-use Rattle.life_rle.specs.ItemLaws.{split_push, rows_push, columns_push_end, columns_push_other, spells_push}
-use Rattle.life_rle.specs.Spelling.{SpellsItemApart, AreLineFeeds, IsNone}
+use Rattle.life_rle.specs.declared.error.RleError.TheVariants.{NoHeader, BadHeader, BadRule, BadItem, BadCount, NoEnd, TooFar, TooMany, Memory}
+use Rattle.rle_items.specs.Items.{rows_of, live, is_row_end, AreCells}
+use Rattle.rle_items.specs.ItemLaws.{split_push, rows_push, columns_push_end, columns_push_other, spells_push}
+use Rattle.rle_items.specs.Spelling.{SpellsItem, IsWhite}
+use Rattle.rle_items.specs.SpellingLaws.{count_some}
 use Rattle.life_rle.specs.Lines.{EndsWith}
-use Rattle.life_rle.specs.Reach.{IsNearZero, IsInReach, cursor_behind, AreFineFrom}
-use Rattle.life_rle.specs.Faults.{BeginsAt}
+use Rattle.rle_items.specs.Reach.{IsNearZero, IsInReach, cursor_behind, AreFineFrom}
+use Rattle.rle_items.specs.Faults.{BeginsAt}
 use Rattle.life_rle.specs.TextFaults.{IsBodyReadTo, IsItemFault, ItemsStopWith}
-use Rattle.life_rle.specs.Cursor.{IsBehind, HasRoom, HasMoved, IsWithinFrom, PassesFrom, item_cells}
-use Rattle.life_rle.specs.Readers.{IsItemBehind, IsEndBehind, IsFaultBehind, IsRead}
-use Rattle.life_rle.proofs.Drawn.{IsDrawn, drawn_none, drawn_push}
-use Rattle.life_rle.proofs.SoFar.{count_some}
-use Rattle.life_rle.proofs.Lined.{ends_on}
+use Rattle.life_rle.specs.Blanks.{blanked}
+use Rattle.rle_items.specs.Cursor.{IsBehind, HasRoom, HasMoved, item_cells}
+use Rattle.life_rle.specs.Readers.{seen_from, IsItemAt, IsEndBehind, IsWithinFrom, PassesFrom, IsRead}
+use Rattle.rle_items.specs.DrawnCells.{IsDrawn, drawn_none, drawn_push}
+use Rattle.life_rle.proofs.Seen.{seen_from_length}
 
 -- ---- fine items from a place
 
@@ -105,90 +106,95 @@ row_fits place items i c d first t b a w is =
 -- the body is read up to the rest; the cursor is behind the items, and the cells are theirs
 pub record IsTextSoFar (text : List ℕ) (place : Cell) (body rest : List ℕ) (cursor : Cursor) (cells : List Cell) : Type 0 where
   pub items : List Item
-  pub read : IsBodyReadTo place body rest items
+  pub read : IsBodyReadTo place body (seen_from text rest) items
   pub ends : EndsWith text rest
   pub behind : IsBehind items cursor
   pub within : IsWithinFrom place cursor
   pub drawn : IsDrawn place items cells
 
-pub text_so_far_start : (text : List ℕ) (place : Cell) (body : List ℕ) (cursor : Cursor) → IsInReach place → EndsWith text body → IsBehind [] cursor → cursor.live ≤ 2 ^ 18 → IsTextSoFar text place body body cursor []
-text_so_far_start text place body cursor near ends behind few = record {
+pub text_so_far_start : (text : List ℕ) (place : Cell) (body : List ℕ) (cursor : Cursor) → IsInReach place → EndsWith text body → seen_from text body ≡ blanked body → IsBehind [] cursor → cursor.live ≤ 2 ^ 18 → IsTextSoFar text place body body cursor []
+text_so_far_start text place body cursor near ends same behind few = record {
   items = [];
-  read = record { front = []; split = refl; spelled = refl; fine = fine_from_none place near };
+  read = record { front = []; split = sym same; spelled = refl; fine = fine_from_none place near };
   ends = ends;
   behind = behind;
   within = record { near = subst IsInReach (sym (stands_behind place [] cursor behind)) (at_place place near); live = few };
   drawn = drawn_none place;
 }
 
-module _ (text : List ℕ) (place : Cell) (body rest : List ℕ) (c d : Cursor) (cells : List Cell) (item : Item) (at : ℕ) (more : List ℕ)
-    (so_far : IsTextSoFar text place body rest c cells) (next : IsItemBehind text rest item at more)
-    (moves : (items : List Item) → IsBehind items c → IsBehind (items ++ (item ∷ [])) d) where
-  rest_is : rest ≡ (next.past.gap ++ (next.item_at.next.digits ++ (next.item_at.tag ∷ []))) ++ more
-  rest_is =
-      next.past.split ∙ ap (λ (bs : List ℕ). next.past.gap ++ bs) (next.item_at.next.at.split ∙ sym (append_assoc next.item_at.next.digits (next.item_at.tag ∷ []) more))
-      ∙ sym (append_assoc next.past.gap (next.item_at.next.digits ++ (next.item_at.tag ∷ [])) more)
+regroup : (a b c : List ℕ) (t : ℕ) (r : List ℕ) → a ++ (b ++ (c ++ (t ∷ r))) ≡ (((a ++ b) ++ c) ++ (t ∷ [])) ++ r
+regroup a b c t r =
+    sym (append_assoc a b (c ++ (t ∷ r))) ∙ sym (append_assoc (a ++ b) c (t ∷ r)) ∙ sym (append_assoc ((a ++ b) ++ c) (t ∷ []) r)
 
-  spelled : SpellsItemApart AreLineFeeds IsNone (next.past.gap ++ (next.item_at.next.digits ++ (next.item_at.tag ∷ []))) item
+module _ (text : List ℕ) (place : Cell) (body rest : List ℕ) (c d : Cursor) (cells : List Cell) (item : Item) (at : ℕ) (more : List ℕ)
+    (so_far : IsTextSoFar text place body rest c cells) (next : IsItemAt text (seen_from text rest) item at (seen_from text more))
+    (moves : (items : List Item) → IsBehind items c → IsBehind (items ++ (item ∷ [])) d) where
+  rest_is : seen_from text rest ≡ (((next.next.at.past.gap ++ next.next.digits) ++ next.next.at.next.gap) ++ (next.tag ∷ [])) ++ seen_from text more
+  rest_is =
+      next.next.at.past.split ∙ ap (λ (bs : List ℕ). next.next.at.past.gap ++ bs) (next.next.at.count.split ∙ ap (λ (bs : List ℕ). next.next.digits ++ bs) next.next.at.next.split)
+      ∙ regroup next.next.at.past.gap next.next.digits next.next.at.next.gap next.tag (seen_from text more)
+
+  spelled : SpellsItem IsWhite (((next.next.at.past.gap ++ next.next.digits) ++ next.next.at.next.gap) ++ (next.tag ∷ [])) item
   spelled = record {
-    before = next.past.gap;
-    digits = next.item_at.next.digits;
-    between = [];
-    tag = next.item_at.tag;
-    whole = sym (append_assoc next.past.gap next.item_at.next.digits (next.item_at.tag ∷ [])) ∙ ap (λ (bs : List ℕ). bs ++ (next.item_at.tag ∷ [])) (sym (append-nil (next.past.gap ++ next.item_at.next.digits)));
-    gap_before = next.past.gap_is;
-    gap_between = refl;
-    count = next.item_at.next.count;
-    tag_is = next.item_at.next.tag_is;
+    before = next.next.at.past.gap;
+    digits = next.next.digits;
+    between = next.next.at.next.gap;
+    tag = next.tag;
+    whole = refl;
+    gap_before = next.next.at.past.gap_is;
+    gap_between = next.next.at.next.gap_is;
+    count = next.next.count;
+    tag_is = next.next.tag_is;
   }
 
   pub rest_shorter : length more < length rest
   rest_shorter = omega (
     arith,
     ap length rest_is,
-    length-append (next.past.gap ++ (next.item_at.next.digits ++ (next.item_at.tag ∷ []))) more,
-    length-append next.past.gap (next.item_at.next.digits ++ (next.item_at.tag ∷ [])),
-    length-append next.item_at.next.digits (next.item_at.tag ∷ []),
+    seen_from_length text rest,
+    seen_from_length text more,
+    length-append (((next.next.at.past.gap ++ next.next.digits) ++ next.next.at.next.gap) ++ (next.tag ∷ [])) (seen_from text more),
+    length-append ((next.next.at.past.gap ++ next.next.digits) ++ next.next.at.next.gap) (next.tag ∷ []),
   )
 
-  pub text_so_far_push : (first : Cell) → first ≡ stands_at place c → IsWithinFrom place d → IsTextSoFar text place body more d (cells ++ item_cells first item)
-  text_so_far_push first first_is within =
+  pub text_so_far_push : (first : Cell) → first ≡ stands_at place c → EndsWith text more → IsWithinFrom place d → IsTextSoFar text place body more d (cells ++ item_cells first item)
+  text_so_far_push first first_is ends within =
       let items = so_far.items in
       let behind = moves items so_far.behind in
       let front = so_far.read.front in
-      let piece : List ℕ = next.past.gap ++ (next.item_at.next.digits ++ (next.item_at.tag ∷ [])) in
+      let piece : List ℕ = ((next.next.at.past.gap ++ next.next.digits) ++ next.next.at.next.gap) ++ (next.tag ∷ []) in
       let few : live (items ++ (item ∷ [])) ≤ 2 ^ 18 = (let p = behind.live in let q = within.live in omega arith) in
       record {
         items = items ++ (item ∷ []);
         read = record {
           front = front ++ piece;
-          split = so_far.read.split ∙ ap (λ (bs : List ℕ). front ++ bs) rest_is ∙ sym (append_assoc front piece more);
-          spelled = spells_push AreLineFeeds IsNone front piece items item so_far.read.spelled spelled;
+          split = so_far.read.split ∙ ap (λ (bs : List ℕ). front ++ bs) rest_is ∙ sym (append_assoc front piece (seen_from text more));
+          spelled = spells_push IsWhite front piece items item so_far.read.spelled spelled;
           fine = fine_from_push place items item so_far.read.fine (subst IsInReach (stands_behind place (items ++ (item ∷ [])) d behind) within.near) few;
         };
-        ends = ends_on text rest more so_far.ends (record { before = piece; split = rest_is });
+        ends = ends;
         behind = behind;
         within = within;
         drawn = subst (λ (e : Cell). IsDrawn place (items ++ (item ∷ [])) (cells ++ item_cells e item)) (sym (first_is ∙ stands_behind place items c so_far.behind))
-            (drawn_push place items item cells (count_some next.item_at.next.digits item.count next.item_at.next.count) so_far.drawn);
+            (drawn_push place items item cells (count_some next.next.digits item.count next.next.count) so_far.drawn);
       }
 
-  limit_fault : (e : RleError) → PassesFrom place d at e → IsItemFault text place next.from so_far.items e
+  limit_fault : (e : RleError) → PassesFrom place d at e → IsItemFault text place (seen_from text rest) so_far.items e
   limit_fault (TooFar there) p = record {
     item = item;
-    tag = next.item_at.tag;
-    more = more;
-    next = next.item_at.next;
+    tag = next.tag;
+    more = seen_from text more;
+    next = next.next;
     far = λ near. p.0 (subst IsInReach (sym (stands_behind place (so_far.items ++ (item ∷ [])) d (moves so_far.items so_far.behind))) near);
-    tag_at = subst (λ (n : ℕ). BeginsAt text (next.item_at.tag ∷ more) n) (sym p.1) next.item_at.tag_at;
+    tag_at = subst (λ (n : ℕ). BeginsAt text (next.tag ∷ seen_from text more) n) (sym p.1) next.tag_at;
   }
   limit_fault (TooMany count) p =
       let behind = moves so_far.items so_far.behind in
       record {
         item = item;
-        tag = next.item_at.tag;
-        more = more;
-        next = next.item_at.next;
+        tag = next.tag;
+        more = seen_from text more;
+        next = next.next;
         near = subst IsInReach (stands_behind place (so_far.items ++ (item ∷ [])) d behind) p.0;
         count_is = p.1.1 ∙ behind.live;
         many = let q = p.1.0 in let r = p.1.1 in omega arith;
@@ -199,27 +205,28 @@ module _ (text : List ℕ) (place : Cell) (body rest : List ℕ) (c d : Cursor) 
   limit_fault (BadItem there) p = absurd p
   limit_fault (BadCount there) p = absurd p
   limit_fault NoEnd p = absurd p
-  limit_fault (NotYet there) p = absurd p
   limit_fault Memory p = absurd p
 
   -- a limit that the item passes is where the reading stops
   pub text_stops_at_limit : (e : RleError) → PassesFrom place d at e → ItemsStopWith text place body e
-  text_stops_at_limit e p = record { items = so_far.items; rest = rest; more = next.from; read = so_far.read; past = next.past; fault = limit_fault e p }
+  text_stops_at_limit e p = record { items = so_far.items; rest = seen_from text rest; read = so_far.read; fault = limit_fault e p }
 
   pub text_stops_without_memory : (e : RleError) → e ≡ Memory → ItemsStopWith text place body e
-  text_stops_without_memory e is = subst (λ (e : RleError). ItemsStopWith text place body e) (sym is) (record { items = so_far.items; rest = rest; more = next.from; read = so_far.read; past = next.past; fault = tt })
+  text_stops_without_memory e is = subst (λ (e : RleError). ItemsStopWith text place body e) (sym is) (record { items = so_far.items; rest = seen_from text rest; read = so_far.read; fault = tt })
 
 -- a fault at the front of the rest is where the reading stops
-pub text_stops_at_fault : (text : List ℕ) (place : Cell) (body rest : List ℕ) (cursor : Cursor) (cells : List Cell) (e : RleError) → IsTextSoFar text place body rest cursor cells → IsFaultBehind text rest e → ItemsStopWith text place body e
-text_stops_at_fault text place body rest cursor cells e h f = record { items = h.items; rest = rest; more = f.from; read = h.read; past = f.past; fault = f.fault place h.items }
+pub text_stops_at_fault : (text : List ℕ) (place : Cell) (body rest : List ℕ) (cursor : Cursor) (cells : List Cell) (e : RleError) → IsTextSoFar text place body rest cursor cells
+    → ((place : Cell) (items : List Item) → IsItemFault text place (seen_from text rest) items e) → ItemsStopWith text place body e
+text_stops_at_fault text place body rest cursor cells e h f = record { items = h.items; rest = seen_from text rest; read = h.read; fault = f place h.items }
 
-pub text_is_read : (text : List ℕ) (place : Cell) (body rest : List ℕ) (cursor : Cursor) (cells : List Cell) → IsTextSoFar text place body rest cursor cells → IsEndBehind rest → IsRead place body (from_list cells)
+pub text_is_read : (text : List ℕ) (place : Cell) (body rest : List ℕ) (cursor : Cursor) (cells : List Cell) → IsTextSoFar text place body rest cursor cells → IsEndBehind (seen_from text rest) → IsRead place body (from_list cells)
 text_is_read text place body rest cursor cells h end = record {
   items = h.items;
-  rest = rest;
+  rest = seen_from text rest;
   read = h.read;
   end = end;
   are_cells = subst (λ (s : Plane). AreCells place h.items s) (sym (alive-from_list cells)) h.drawn.are_cells;
+  few = let within = h.within.live in let behind = h.behind.live in omega (arith, h.drawn.count, ap length (in_order-from_list cells h.drawn.rising));
 }
 
 -- ---- where the cells are

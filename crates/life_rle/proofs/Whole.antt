@@ -3,16 +3,17 @@ use Rattle.std.specs.Prelude.{◌≡◌, ℕ, ℤ, pos, List, [], ◌∷◌, ◌
 use Rattle.std.proofs.Common.{sym, ap, ◌∙◌, subst, inl, inr}
 use Rattle.std.proofs.lemmas.List.{append_assoc}
 use Rattle.life_plane.specs.Plane.{Plane}
+use Rattle.rle_items.specs.Words.{IsNotNegative, WordMeans}
 use Rattle.life_cells.specs.declared.cell.Cell.{Cell}
 use Rattle.life_cells.specs.Cells.{Cells, cell, alive, in_order, IsRising}
 use Rattle.life_cells.specs.Listed.{listed}
 use Rattle.life_cells.specs.Laws.{alive-in_order}
-use Rattle.life_rle.specs.declared.item.Item.{Item}
-use Rattle.life_rle.specs.declared.item.Tag.{Tag}
-use Rattle.life_rle.specs.declared.item.Tag.TheVariants.{Dead, Alive, RowEnd}
-use Rattle.life_rle.specs.Items.{AreCells}
-use Rattle.life_rle.specs.Text.{Means, WordMeans}
-use Rattle.life_rle.specs.Written.{IsFrame, IsTidyAfter, IsTidyBody, IsRleText, IsBodyText, IsNotNegative, HasNoLineBreak, place_line, note_line, header_line, folded, pieces}
+use Rattle.rle_items.specs.declared.item.Item.{Item}
+use Rattle.rle_items.specs.declared.item.Tag.{Tag}
+use Rattle.rle_items.specs.declared.item.Tag.TheVariants.{Dead, Alive, RowEnd}
+use Rattle.rle_items.specs.Items.{AreCells}
+use Rattle.life_rle.specs.Text.{Means}
+use Rattle.life_rle.specs.Written.{IsFrame, IsTidyAfter, IsTidyBody, IsRleText, IsBodyText, HasNoLineBreak, place_line, note_line, header_line, folded, pieces}
 use Rattle.life_rle.specs.Drawn.{IsBehind, StartsAfter, IsTidyFrom, AreSmall, IsSmallFrame}
 use Rattle.life_rle.proofs.Framing.{tidy_framed}
 use Rattle.life_rle.proofs.ReadBack.{written_means, word_means}

@@ -10,16 +10,15 @@ use Rattle.life_cells.specs.Cells.{Cells, alive, in_order, from_list}
 use Rattle.life_cells.specs.Boxes.{IsInRange}
 use Rattle.life_cells.specs.Listed.{listed}
 use Rattle.life_cells.specs.Laws.{alive-from_list, in_order-from_list, same_cells}
-use Rattle.life_rle.specs.declared.item.Item.{Item}
-use Rattle.life_rle.specs.declared.item.Tag.{Tag}
-use Rattle.life_rle.specs.declared.item.Tag.TheVariants.{Dead, Alive, RowEnd}
-use Rattle.life_rle.specs.Items.{rows_of, live, is_alive, is_row_end, IsMade, AreCells}
-use Rattle.life_rle.specs.ItemLaws.{rows_push, columns_push_end, columns_push_other, live_push}
+use Rattle.rle_items.specs.declared.item.Item.{Item}
+use Rattle.rle_items.specs.declared.item.Tag.{Tag}
+use Rattle.rle_items.specs.declared.item.Tag.TheVariants.{Dead, Alive, RowEnd}
+use Rattle.rle_items.specs.Items.{rows_of, live, is_alive, is_row_end, IsMade, AreCells}
+use Rattle.rle_items.specs.ItemLaws.{rows_push, columns_push_end, columns_push_other, live_push}
 use Rattle.life_rle.specs.Written.{may_follow, IsTidyAfter, IsTidy, IsFrame}
 use Rattle.life_rle.specs.Drawn.{AreSmall}
-use Rattle.life_rle.specs.Reach.{IsInReach, cursor_behind, AreFineFrom}
-use Rattle.life_rle.proofs.Drawn.{IsDrawn, drawn_none, drawn_push}
-use Rattle.life_rle.proofs.OneReading.{same_cells as same_planes}
+use Rattle.rle_items.specs.Reach.{IsInReach, cursor_behind, AreFineFrom}
+use Rattle.rle_items.specs.DrawnCells.{IsDrawn, drawn_none, drawn_push, same_cells as same_planes}
 
 -- ---- where the cursor of tidy items stands
 

@@ -1,5 +1,5 @@
 -- The first lines of a text, and what follows them.
-use Rattle.std.specs.Prelude.{◌≡◌, ℕ, ◌<◌, Bool, ◌==◌, List, [], ◌∷◌, ◌++◌, ◌⊎◌, length, if◌then◌else◌}
+use Rattle.std.specs.Prelude.{◌≡◌, ℕ, ◌<◌, Bool, ◌==◌, List, [], ◌∷◌, ◌++◌, length, if◌then◌else◌}
 use Rattle.std.specs.List.{before_first, after_first}
 use Rattle.std.specs.Str.Lines.{strip_carriage_return}
 
@@ -27,7 +27,3 @@ BeginsWithLines text (line ∷ more) rest = (0 < length text) × ((first_line te
 pub record EndsWith (text rest : List ℕ) : Type 0 where
   pub before : List ℕ
   pub split : text ≡ before ++ rest
-
--- the rest begins where the text does, or right behind a line feed
-abbrev pub BeginsLine : List ℕ → List ℕ → Type 0
-BeginsLine text rest = (text ≡ rest) ⊎ EndsWith text (10 ∷ rest)

@@ -1,45 +1,40 @@
--- Where the reading of a text stops, the first fault by its place.
-use Rattle.std.specs.Prelude.{◌≡◌, ◌≢◌, ℕ, ◌<◌, ◌^◌, ◌⊎◌, true, false, List, [], ◌∷◌, ◌++◌, length}
+-- Where the reading of a text stops, the first fault in the order of the text.
+use Rattle.std.specs.Prelude.{◌≡◌, ◌≢◌, ℕ, ◌+◌, ◌<◌, ◌^◌, ◌⊎◌, true, false, List, [], ◌∷◌, ◌++◌, length}
 use Rattle.std.specs.List.{AllByRecursion}
 use Rattle.std.specs.Str.Lines.{lines}
-use Rattle.std.specs.declared.option.Option.TheVariants.{None}
+use Rattle.std.specs.declared.option.Option.TheVariants.{Some, None}
 use Rattle.life_cells.specs.declared.cell.Cell.{Cell}
-use Rattle.life_rle.specs.declared.item.Item.{Item}
+use Rattle.rle_items.specs.declared.item.Item.{Item}
+use Rattle.rle_items.specs.Numbers.{value}
+use Rattle.rle_items.specs.Items.{live}
+use Rattle.rle_items.specs.Spelling.{Spells, IsCount, IsWhite, is_white, tag_of}
+use Rattle.rle_items.specs.Reach.{IsInReach, cursor_behind, AreFineFrom}
+use Rattle.rle_items.specs.Faults.{BeginsAt, IsAtCount}
 use Rattle.life_rle.specs.declared.error.RleError.{RleError}
-use Rattle.life_rle.specs.declared.error.RleError.TheVariants.{NoHeader, BadHeader, BadRule, BadItem, BadCount, NoEnd, TooFar, TooMany, NotYet, Memory}
-use Rattle.life_rle.specs.Numbers.{value}
-use Rattle.life_rle.specs.Items.{live}
-use Rattle.life_rle.specs.Spelling.{SpellsApart, AreLineFeeds, IsNone, IsCount, IsWhite, is_white, tag_of}
-use Rattle.life_rle.specs.Lines.{first_line, behind, BeginsWithLines, BeginsLine}
-use Rattle.life_rle.specs.PlainHeader.{IsPlainHeader}
-use Rattle.life_rle.specs.Text.{is_comment, gives_place, IsPassedOver, IsPlace, uncommented}
-use Rattle.life_rle.specs.Reach.{IsInReach, cursor_behind, AreFineFrom}
-use Rattle.life_rle.specs.Faults.{BeginsAt, IsAtCount, IsNext, EndsEarly}
+use Rattle.life_rle.specs.declared.error.RleError.TheVariants.{NoHeader, BadHeader, BadRule, BadItem, BadCount, NoEnd, TooFar, TooMany, Memory}
+use Rattle.life_rle.specs.Lines.{first_line, BeginsWithLines}
+use Rattle.life_rle.specs.Blanks.{IsPassedOver, blanked}
+use Rattle.life_rle.specs.Header.{HasHeaderForm, IsHeader}
+use Rattle.life_rle.specs.Text.{gives_place, IsAtHeader, HasBody, Says}
 
 -- ---- before the items
 
--- comments and blank lines are passed over, and behind them begins a line that is none
-pub record IsAtHeader (text : List ℕ) (head : List (List ℕ)) (rest : List ℕ) : Type 0 where
-  pub lines_are : BeginsWithLines text head rest
-  pub passed : AllByRecursion IsPassedOver head
-  pub other : ¬ IsPassedOver (first_line rest)
-
--- that line is no header in the one spelling; it begins at this place
-pub record HasOtherHeader (text : List ℕ) (at : ℕ) : Type 0 where
+-- the header's line, counted from 1, has another form
+pub record HasBadHeader (text : List ℕ) (line : ℕ) : Type 0 where
   pub head : List (List ℕ)
   pub rest : List ℕ
   pub at_header : IsAtHeader text head rest
-  pub other : ¬ IsPlainHeader (first_line rest)
-  pub place : BeginsAt text rest at
+  pub other : ¬ HasHeaderForm (first_line rest)
+  pub number : line ≡ length head + 1
 
--- that line is such a header; the lines before it give this place, and behind it is this body
-pub record HasBody (text : List ℕ) (place : Cell) (body : List ℕ) : Type 0 where
+-- it has the form of a header, and names another rule
+pub record HasBadRule (text : List ℕ) (line : ℕ) : Type 0 where
   pub head : List (List ℕ)
   pub rest : List ℕ
   pub at_header : IsAtHeader text head rest
-  pub header : IsPlainHeader (first_line rest)
-  pub place_is : IsPlace head place
-  pub body_is : behind rest ≡ body
+  pub form : HasHeaderForm (first_line rest)
+  pub other : ¬ IsHeader (first_line rest)
+  pub number : line ≡ length head + 1
 
 -- the first line that may give the place begins here
 pub record HasPlaceLine (text : List ℕ) (at : ℕ) : Type 0 where
@@ -60,119 +55,105 @@ pub record HasFarPlace (text : List ℕ) (at : ℕ) : Type 0 where
 
 -- ---- the items that are read
 
--- a body is read up to a rest: fine items are spelled before it, with no gaps but line feeds before them
+-- comments aside, fine items are spelled at the front of the body, and this is what follows them
 pub record IsBodyReadTo (place : Cell) (body rest : List ℕ) (items : List Item) : Type 0 where
   pub front : List ℕ
-  pub split : body ≡ front ++ rest
-  pub spelled : SpellsApart AreLineFeeds IsNone front items
+  pub split : blanked body ≡ front ++ rest
+  pub spelled : Spells IsWhite front items
   pub fine : AreFineFrom place items
 
--- more stands behind the line feeds of the rest, and begins with none
-pub record IsPastLineFeeds (rest more : List ℕ) : Type 0 where
-  pub gap : List ℕ
-  pub split : rest ≡ gap ++ more
-  pub gap_is : AreLineFeeds gap
-  pub ended : (b : ℕ) (bs : List ℕ) → more ≡ b ∷ bs → b ≢ 10
-
--- a text is passed-over lines, a header in the one spelling, and fine items up to a `!`
+-- a text has a reading, and it is within the limits
 pub record IsFineText (text : List ℕ) : Type 0 where
   pub place : Cell
-  pub body : List ℕ
-  pub has_body : HasBody text place body
   pub items : List Item
-  pub rest : List ℕ
-  pub read : IsBodyReadTo place body rest items
-  pub ignored : List ℕ
-  pub end : IsPastLineFeeds rest (33 ∷ ignored)
+  pub says : Says text place items
+  pub fine : AreFineFrom place items
 
 -- ---- what may stand in their place
 
--- comment lines aside, only white space stands before a `!`
-pub record LeadsToEnd (text : List ℕ) : Type 0 where
+-- behind white space, or none, stands more, which begins with none
+pub record IsPastWhite (rest more : List ℕ) : Type 0 where
   pub gap : List ℕ
-  pub ignored : List ℕ
-  pub split : uncommented (lines text) ≡ gap ++ (33 ∷ ignored)
+  pub split : rest ≡ gap ++ more
   pub gap_is : IsWhite gap
+  pub ended : (b : ℕ) (bs : List ℕ) → more ≡ b ∷ bs → is_white b ≡ false
 
--- the same of what follows digits, where a `#` stands in mid-line and begins no comment
-pub record StandsBeforeEnd (more : List ℕ) : Type 0 where
-  pub mid_line : is_comment more ≡ false
-  pub end : LeadsToEnd more
-
--- digits that are no count: they spell zero, are more than 18, or stand before `!`
-abbrev pub CountsNothing : List ℕ → List ℕ → Type 0
-CountsNothing digits more = (value digits ≡ 0) ⊎ ((18 < length digits) ⊎ StandsBeforeEnd more)
-
--- digits begin here that are no count
-pub record BeginsBadCount (text rest : List ℕ) (at : ℕ) : Type 0 where
-  pub digits : List ℕ
+-- behind white space stand, from here on, the digits of a count, or none; and behind white space again what should be a tag
+pub record IsAtTag (rest from digits at_tag : List ℕ) : Type 0 where
   pub more : List ℕ
-  pub front : IsAtCount rest digits more
+  pub past : IsPastWhite rest from
+  pub count : IsAtCount from digits more
+  pub next : IsPastWhite more at_tag
+
+-- the item at the front of the rest, with its tag before what follows
+pub record IsNextItem (rest : List ℕ) (item : Item) (tag : ℕ) (more : List ℕ) : Type 0 where
+  pub from : List ℕ
+  pub digits : List ℕ
+  pub at : IsAtTag rest from digits (tag ∷ more)
+  pub count : IsCount digits item.count
+  pub tag_is : tag_of tag ≡ Some item.tag
+
+-- digits that are no count: they spell zero, are more than 18, or the next tag is `!`
+abbrev pub CountsNothing : List ℕ → List ℕ → Type 0
+CountsNothing digits at_tag = (value digits ≡ 0) ⊎ ((18 < length digits) ⊎ ((ignored : List ℕ) × (at_tag ≡ 33 ∷ ignored)))
+
+-- the next digits begin here and are no count
+pub record HasBadDigits (text rest : List ℕ) (at : ℕ) : Type 0 where
+  pub from : List ℕ
+  pub digits : List ℕ
+  pub at_tag : List ℕ
+  pub at_is : IsAtTag rest from digits at_tag
   pub some : 0 < length digits
-  pub bad : CountsNothing digits more
-  pub place : BeginsAt text rest at
+  pub bad : CountsNothing digits at_tag
+  pub place : BeginsAt text from at
 
--- a comment line begins here
-pub record BeginsComment (text rest : List ℕ) (at : ℕ) : Type 0 where
-  pub comment : List ℕ
-  pub split : rest ≡ 35 ∷ comment
-  pub line : BeginsLine text rest
-  pub place : BeginsAt text rest at
-
--- behind a count, or none, stands a byte that is no digit, no tag, no `!`, no white space, and begins no comment line
+-- where a tag should stand, behind a count or none, is a byte that is none and no `!`: the digit of another count, too
 pub record HasStrayByte (text rest : List ℕ) (at : ℕ) : Type 0 where
+  pub from : List ℕ
   pub digits : List ℕ
   pub number : ℕ
   pub byte : ℕ
   pub more : List ℕ
-  pub front : IsAtCount rest digits (byte ∷ more)
+  pub at_is : IsAtTag rest from digits (byte ∷ more)
   pub count : IsCount digits number
   pub no_tag : tag_of byte ≡ None
   pub no_end : byte ≢ 33
-  pub no_white : is_white byte ≡ false
-  pub no_comment : ¬ BeginsComment text (byte ∷ more) at
   pub place : BeginsAt text (byte ∷ more) at
 
--- behind a count, or none, stands white space; the count does not stand before `!`
-pub record HasWhiteByte (text rest : List ℕ) (at : ℕ) : Type 0 where
+-- the text ends where a tag should stand, behind a count or none
+pub record EndsBeforeTag (rest : List ℕ) : Type 0 where
+  pub from : List ℕ
   pub digits : List ℕ
   pub number : ℕ
-  pub byte : ℕ
-  pub more : List ℕ
-  pub front : IsAtCount rest digits (byte ∷ more)
+  pub at_is : IsAtTag rest from digits []
   pub count : IsCount digits number
-  pub white : is_white byte ≡ true
-  pub no_end : 0 < length digits → ¬ StandsBeforeEnd (byte ∷ more)
-  pub place : BeginsAt text (byte ∷ more) at
 
--- with the item at the front of the rest the cursor is out of reach
+-- with the next item the cursor is out of reach
 pub record GoesTooFar (text : List ℕ) (place : Cell) (rest : List ℕ) (items : List Item) (at : ℕ) : Type 0 where
   pub item : Item
   pub tag : ℕ
   pub more : List ℕ
-  pub next : IsNext rest item tag more
+  pub next : IsNextItem rest item tag more
   pub far : ¬ IsInReach (cursor_behind place (items ++ (item ∷ [])))
   pub tag_at : BeginsAt text (tag ∷ more) at
 
--- with the item at the front of the rest the cursor is in reach, and there are too many live cells
+-- with the next item the cursor is in reach, and there are too many live cells
 pub record MakesTooMany (place : Cell) (rest : List ℕ) (items : List Item) (count : ℕ) : Type 0 where
   pub item : Item
   pub tag : ℕ
   pub more : List ℕ
-  pub next : IsNext rest item tag more
+  pub next : IsNextItem rest item tag more
   pub near : IsInReach (cursor_behind place (items ++ (item ∷ [])))
   pub count_is : count ≡ live (items ++ (item ∷ []))
   pub many : 2 ^ 18 < count
 
--- what stands behind these items and line feeds is this fault. A form that is not read yet is white space but for the line
--- feeds before an item, or a comment line; so a line feed behind a count is one, also where no tag follows it any more
+-- what stands behind these items is this fault
 abbrev pub IsItemFault : List ℕ → Cell → List ℕ → List Item → RleError → Type 0
 IsItemFault text place rest items (BadItem at) = HasStrayByte text rest at
-IsItemFault text place rest items (BadCount at) = BeginsBadCount text rest at
-IsItemFault text place rest items NoEnd = EndsEarly rest
+IsItemFault text place rest items (BadCount at) = HasBadDigits text rest at
+IsItemFault text place rest items NoEnd = EndsBeforeTag rest
 IsItemFault text place rest items (TooFar at) = GoesTooFar text place rest items at
 IsItemFault text place rest items (TooMany count) = MakesTooMany place rest items count
-IsItemFault text place rest items (NotYet at) = HasWhiteByte text rest at ⊎ BeginsComment text rest at
 IsItemFault text place rest items NoHeader = ⊥
 IsItemFault text place rest items (BadHeader line) = ⊥
 IsItemFault text place rest items (BadRule line) = ⊥
@@ -182,12 +163,10 @@ IsItemFault text place rest items Memory = Unit {0}
 pub record ItemsStopWith (text : List ℕ) (place : Cell) (body : List ℕ) (error : RleError) : Type 0 where
   pub items : List Item
   pub rest : List ℕ
-  pub more : List ℕ
   pub read : IsBodyReadTo place body rest items
-  pub past : IsPastLineFeeds rest more
-  pub fault : IsItemFault text place more items error
+  pub fault : IsItemFault text place rest items error
 
--- the header and the place are read, and the reading of the items stops with this refusal
+-- the header is one, the place is in reach, and the reading of the items stops with this refusal
 pub record BodyStopsWith (text : List ℕ) (error : RleError) : Type 0 where
   pub place : Cell
   pub body : List ℕ
@@ -197,10 +176,9 @@ pub record BodyStopsWith (text : List ℕ) (error : RleError) : Type 0 where
 -- the reading stops with this refusal before the items
 abbrev pub StartStopsWith : List ℕ → RleError → Type 0
 StartStopsWith text NoHeader = AllByRecursion IsPassedOver (lines text)
-StartStopsWith text (NotYet at) = HasOtherHeader text at
+StartStopsWith text (BadHeader line) = HasBadHeader text line
+StartStopsWith text (BadRule line) = HasBadRule text line
 StartStopsWith text (TooFar at) = HasFarPlace text at
-StartStopsWith text (BadHeader line) = ⊥
-StartStopsWith text (BadRule line) = ⊥
 StartStopsWith text (BadItem at) = ⊥
 StartStopsWith text (BadCount at) = ⊥
 StartStopsWith text NoEnd = ⊥
@@ -210,12 +188,23 @@ StartStopsWith text Memory = ⊥
 -- the reading of a text stops with this refusal
 abbrev pub TextStopsWith : List ℕ → RleError → Type 0
 TextStopsWith text NoHeader = AllByRecursion IsPassedOver (lines text)
-TextStopsWith text (NotYet at) = HasOtherHeader text at ⊎ BodyStopsWith text (NotYet at)
+TextStopsWith text (BadHeader line) = HasBadHeader text line
+TextStopsWith text (BadRule line) = HasBadRule text line
 TextStopsWith text (TooFar at) = HasFarPlace text at ⊎ BodyStopsWith text (TooFar at)
 TextStopsWith text (BadItem at) = BodyStopsWith text (BadItem at)
 TextStopsWith text (BadCount at) = BodyStopsWith text (BadCount at)
 TextStopsWith text NoEnd = BodyStopsWith text NoEnd
 TextStopsWith text (TooMany count) = BodyStopsWith text (TooMany count)
-TextStopsWith text (BadHeader line) = ⊥
-TextStopsWith text (BadRule line) = ⊥
 TextStopsWith text Memory = Unit {0}
+
+-- the refusal is for a limit, or for want of memory
+abbrev pub IsForLimit : RleError → Type 0
+IsForLimit (TooFar at) = Unit {0}
+IsForLimit (TooMany count) = Unit {0}
+IsForLimit Memory = Unit {0}
+IsForLimit NoHeader = ⊥
+IsForLimit (BadHeader line) = ⊥
+IsForLimit (BadRule line) = ⊥
+IsForLimit (BadItem at) = ⊥
+IsForLimit (BadCount at) = ⊥
+IsForLimit NoEnd = ⊥

@@ -2,8 +2,8 @@
 use Rattle.std.specs.Prelude.{◌≡◌, ◌≢◌, ℕ, ◌<◌, ◌≤◌, ◌^◌, Bool, true, false, ◌==◌, ℤ, List, ◌∷◌, ◌++◌}
 use Rattle.std.specs.List.{AllByRecursion}
 use Rattle.life_cells.specs.declared.cell.Cell.{Cell}
-use Rattle.life_rle.specs.Text.{is_blank_byte}
-use Rattle.life_rle.specs.Reach.{IsNearZero, IsInReach}
+use Rattle.life_rle.specs.Blanks.{is_blank_byte}
+use Rattle.rle_items.specs.Reach.{IsNearZero, IsInReach}
 
 abbrev pub is_comma : ℕ → Bool
 is_comma b = b == 44

@@ -1,6 +1,6 @@
 -- The one text that is written for a set of cells.
 use Rattle.std.specs.List.{AllByRecursion}
-use Rattle.std.specs.Prelude.{◌≡◌, ◌≢◌, ℕ, ◌+◌, ◌<◌, Bool, true, false, ◌==◌, ◌⊎◌, ℤ, pos, ◌+ℤ◌, ◌-ℤ◌, ◌≤ℤ◌, List, [], ◌∷◌, ◌++◌, length, codes, if◌then◌else◌, Option, map, flat_map, nat_le}
+use Rattle.std.specs.Prelude.{◌≡◌, ◌≢◌, ℕ, ◌+◌, ◌<◌, Bool, true, false, ◌⊎◌, pos, ◌+ℤ◌, ◌-ℤ◌, List, [], ◌∷◌, ◌++◌, length, codes, if◌then◌else◌, Option, map, flat_map, nat_le}
 use Rattle.std.specs.Fmt.{decimal, signed_decimal}
 use Rattle.std.specs.declared.option.Option.TheVariants.{Some, None}
 use Rattle.life_plane.specs.Plane.{Plane, nothing}
@@ -8,10 +8,11 @@ use Rattle.life_cells.specs.Cells.{cell}
 use Rattle.life_cells.specs.Boxes.{IsLeastBox}
 use Rattle.life_cells.specs.declared.cell.Cell.{Cell}
 use Rattle.life_cells.specs.declared.bounds.Bounds.{Bounds}
-use Rattle.life_rle.specs.Items.{AreCells}
-use Rattle.life_rle.specs.declared.item.Item.{Item}
-use Rattle.life_rle.specs.declared.item.Tag.{Tag}
-use Rattle.life_rle.specs.declared.item.Tag.TheVariants.{Dead, Alive, RowEnd}
+use Rattle.rle_items.specs.Items.{AreCells}
+use Rattle.rle_items.specs.Words.{item_text}
+use Rattle.rle_items.specs.declared.item.Item.{Item}
+use Rattle.rle_items.specs.declared.item.Tag.{Tag}
+use Rattle.rle_items.specs.declared.item.Tag.TheVariants.{Dead, Alive, RowEnd}
 
 -- dead cells are written only before live ones, and two items in a row never have one tag
 abbrev pub may_follow : Tag → Tag → Bool
@@ -37,15 +38,6 @@ IsTidy items = (items ≡ []) ⊎ IsTidyAfter RowEnd items
 -- the items of a body word: it may also begin by going down
 abbrev pub IsTidyBody : List Item → Type 0
 IsTidyBody items = IsTidy items ⊎ IsTidyAfter Alive items
-
-abbrev pub tag_byte : Tag → ℕ
-tag_byte Dead = 98
-tag_byte Alive = 111
-tag_byte RowEnd = 36
-
--- the count, unless it is 1, and the tag
-abbrev pub item_text : Item → List ℕ
-item_text i = (if i.count == 1 then [] else decimal i.count) ++ (tag_byte i.tag ∷ [])
 
 -- pieces in lines: a line is ended only where the next piece would pass 70 characters
 abbrev pub folded : ℕ → List (List ℕ) → List ℕ
@@ -100,8 +92,3 @@ Appends old new P = (text : List ℕ) × ((new ≡ old ++ text) × P text)
 abbrev pub HasNoLineBreak : Option (List ℕ) → Type 0
 HasNoLineBreak None = Unit {0}
 HasNoLineBreak (Some note) = AllByRecursion (λ b. b ≢ 10) note
-
--- no live cell has a negative coordinate
-pub record IsNotNegative (s : Plane) : Type 0 where
-  pub x : (x y : ℤ) → s x y ≡ true → pos 0 ≤ℤ x
-  pub y : (x y : ℤ) → s x y ≡ true → pos 0 ≤ℤ y

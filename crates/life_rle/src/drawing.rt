@@ -4,11 +4,11 @@ ghost use Rattle.std.specs.Prelude.{◌≡◌, ◌++◌, ◌^◌, OnOk, IfOk, ne
 ghost use Rattle.life_cells.specs.Cells.{cell, IsRising};
 ghost use Rattle.life_cells.specs.Listed.{listed};
 ghost use Rattle.life_cells.specs.Boxes.{IsInRange};
-ghost use Rattle.life_rle.specs.Items.{AreCells};
+ghost use Rattle.rle_items.specs.Items.{AreCells};
 ghost use Rattle.life_rle.specs.Drawn.{some_of, IsBehind, IsAhead, IsNext, HasGap, IsTidyFrom, AreSmall};
 
-use crate::item::{Item, Tag};
 use life_cells::{Cell, NoMemory};
+use rle_items::item::{Item, Tag};
 use std::alloc::Global;
 
 /// Appends an item, unless it counts nothing.

@@ -1,7 +1,6 @@
-//! The refusals of the readers. Bytes count from 0 and lines from 1.
+//! The refusals of a text. Bytes count from 0 and lines from 1.
 
 ghost use Rattle.std.specs.Prelude.{◌≡◌};
-ghost use Rattle.life_rle.specs.declared.error.BodyError.TheVariants as body;
 ghost use Rattle.life_rle.specs.declared.error.RleError.TheVariants as text;
 
 use life_cells::NoMemory;
@@ -10,16 +9,16 @@ use thiserror::Error;
 /// Why a text is not read.
 #[derive(Clone, Copy, Debug, PartialEq, Eq, Error)]
 pub enum RleError {
-    /// No line is a header.
+    /// Each line is a comment or blank.
     #[error("no header")]
     NoHeader,
-    /// The header line has another form.
+    /// The header's line has another form.
     #[error("bad header in line {line}")]
     BadHeader { line: u64 },
     /// The header names another rule than Conway's.
     #[error("unknown rule in line {line}")]
     BadRule { line: u64 },
-    /// A byte is no part of an item.
+    /// A byte is no part of an item, or begins a count that follows another.
     #[error("bad item at byte {at}")]
     BadItem { at: u64 },
     /// A count is zero, too long, or stands before the end.
@@ -34,43 +33,9 @@ pub enum RleError {
     /// More than 2^18 live cells.
     #[error("{count} live cells")]
     TooMany { count: u64 },
-    /// A form that is not read yet.
-    #[error("not yet read at byte {at}")]
-    NotYet { at: u64 },
     /// No memory.
     #[error("no memory")]
     Memory,
-}
-
-/// Why a body word is not read.
-#[derive(Clone, Copy, Debug, PartialEq, Eq, Error)]
-pub enum BodyError {
-    /// A byte is no part of an item, or follows the `!`.
-    #[error("bad item at byte {at}")]
-    BadItem { at: u64 },
-    /// A count is zero, too long, or stands before the `!`.
-    #[error("bad count at byte {at}")]
-    BadCount { at: u64 },
-    /// The word ends before a `!`.
-    #[error("no end")]
-    NoEnd,
-    /// A coordinate passes 2^40.
-    #[error("too far at byte {at}")]
-    TooFar { at: u64 },
-    /// More than 2^18 live cells.
-    #[error("{count} live cells")]
-    TooMany { count: u64 },
-    /// No memory.
-    #[error("no memory")]
-    Memory,
-}
-
-impl From<NoMemory> for BodyError {
-    ghost from_gives = { λ _ e. e ≡ body.Memory };
-
-    fn from(_: NoMemory) -> Self {
-        BodyError::Memory
-    }
 }
 
 impl From<NoMemory> for RleError {

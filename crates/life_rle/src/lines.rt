@@ -4,8 +4,8 @@ ghost use Rattle.std.specs.Prelude.{◌≡◌, ◌++◌, ◌∷◌, ℕ, List, O
 ghost use Rattle.std.specs.String.{string_bytes};
 ghost use Rattle.life_rle.specs.Written.{folded, pieces};
 
-use crate::item::Item;
 use life_cells::NoMemory;
+use rle_items::item::Item;
 use std::alloc::Global;
 
 /// The greatest length of a line of items.

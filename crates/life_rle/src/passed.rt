@@ -4,7 +4,8 @@ ghost use Rattle.std.specs.Prelude.{◌≡◌, ◌↔◌, IsTrue};
 ghost use Rattle.std.specs.List.{position};
 ghost use Rattle.std.specs.Str.Lines.{strip_carriage_return};
 ghost use Rattle.life_rle.specs.Lines.{first_line, behind, is_line_feed};
-ghost use Rattle.life_rle.specs.Text.{is_comment, gives_place, is_blank_byte, IsBlank, IsPassedOver};
+ghost use Rattle.life_rle.specs.Blanks.{is_comment, is_blank_byte, IsBlank, IsPassedOver};
+ghost use Rattle.life_rle.specs.Text.{gives_place};
 
 /// A line without the carriage return at its end.
 fn strip_return(line: &[u8]) -> &[u8]
@@ -56,7 +57,7 @@ pub fn is_blank_byte(byte: u8) -> bool
 }
 
 /// Whether a line has nothing but spaces and tabs.
-fn is_blank(line: &[u8]) -> bool
+pub fn is_blank(line: &[u8]) -> bool
     ensures { IsTrue result ↔ IsBlank line.now }
 {
     line.iter().all(|b| is_blank_byte(*b))

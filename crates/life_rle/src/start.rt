@@ -1,19 +1,20 @@
 //! What stands before the items of a text: lines that are passed over, and the header.
 
-ghost use Rattle.std.specs.Prelude.{◌≡◌, ◌<◌, length, IfOk, IfErr};
-ghost use Rattle.life_rle.specs.Lines.{first_line, behind};
-ghost use Rattle.life_rle.specs.Text.{IsPassedOver};
-ghost use Rattle.life_rle.specs.Reach.{IsInReach};
-ghost use Rattle.life_rle.specs.TextFaults.{HasBody, StartStopsWith};
+ghost use Rattle.std.specs.Prelude.{◌≡◌, ℕ, ◌+◌, ◌<◌, length, IfOk, IfErr};
+ghost use Rattle.life_rle.specs.Lines.{first_line, behind, EndsWith};
+ghost use Rattle.life_rle.specs.Blanks.{IsPassedOver};
+ghost use Rattle.rle_items.specs.Reach.{IsInReach};
+ghost use Rattle.life_rle.specs.Text.{HasBody};
+ghost use Rattle.life_rle.specs.TextFaults.{StartStopsWith};
 ghost use Rattle.life_rle.specs.Readers.{IsOpened, Gives, PlaceIsRefused};
 
 use crate::error::RleError;
-use crate::front::offset;
-use crate::header::is_plain_header;
+use crate::header::check_header;
 use crate::passed::{gives_place, is_passed_over, split_line};
 use crate::place::place_in;
-use crate::reach::is_in_reach;
 use life_cells::Cell;
+use rle_items::front::offset;
+use rle_items::reach::is_in_reach;
 
 /// A line that may give the place, and where it begins.
 #[derive(Clone, Copy)]
@@ -31,6 +32,8 @@ struct Opening<'a> {
     place_line: Option<PlaceLine<'a>>,
     /// The text from the header's line on.
     rest: &'a [u8],
+    /// The number of that line, counted from 1.
+    line: u64,
 }
 
 /// Where the items begin.
@@ -49,11 +52,11 @@ fn found_with<'a>(
     line: &'a [u8],
     before: Option<PlaceLine<'a>>,
 ) -> Option<PlaceLine<'a>>
-    requires opened { IsOpened text.now rest.now before }
+    requires ends { EndsWith text.now rest.now }
     requires some { 0 < length rest.now }
     requires line { line.now ≡ first_line rest.now }
     requires passed { IsPassedOver line.now }
-    ensures { IsOpened text.now (behind rest.now) result }
+    ensures { (number : ℕ) → IsOpened text.now rest.now before.entry number → IsOpened text.now (behind rest.now) result (number + 1) }
 {
     if before.is_none() && gives_place(line) {
         let at = offset(text, rest);
@@ -65,20 +68,26 @@ fn found_with<'a>(
 
 /// The lines that are passed over at a text's front.
 fn skip_passed_over(text: &[u8]) -> Opening<'_>
-    ensures opened { IsOpened text.now result.rest.now result.place_line }
+    ensures opened { IsOpened text.now result.rest.now result.place_line result.line }
     ensures stopped { 0 < length result.rest.now → ¬ IsPassedOver (first_line result.rest.now) }
 {
     let mut rest = text;
     let mut place_line = None;
+    let mut number = 1;
     while !rest.is_empty() {
         let (line, more) = split_line(rest);
         if !is_passed_over(line) {
-            return Opening { place_line, rest };
+            break;
         }
         place_line = found_with(text, rest, line, place_line);
+        number += 1;
         rest = more;
     }
-    Opening { place_line, rest }
+    Opening {
+        place_line,
+        rest,
+        line: number,
+    }
 }
 
 /// The place that a line gives, if it is in reach; without a line it is (0,0).
@@ -109,10 +118,7 @@ pub fn read_start(text: &[u8]) -> Result<Start<'_>, RleError>
         return Err(RleError::NoHeader);
     }
     let (line, body) = split_line(opening.rest);
-    if !is_plain_header(line) {
-        let at = offset(text, opening.rest);
-        return Err(RleError::NotYet { at });
-    }
+    check_header(line, opening.line)?;
     let place = read_place(opening.place_line)?;
     Ok(Start { place, body })
 }

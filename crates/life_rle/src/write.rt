@@ -3,10 +3,11 @@
 ghost use Rattle.std.specs.Prelude.{◌≡◌, ◌++◌, ◌^◌, ◌<◌, ◌≢◌, ℕ, List, OnOk, OnErr, IfOk};
 ghost use Rattle.std.specs.Option.{option_copied};
 ghost use Rattle.std.specs.String.{string_bytes};
+ghost use Rattle.rle_items.specs.Words.{IsNotNegative, WordMeans};
 ghost use Rattle.life_cells.specs.Cells.{alive};
 ghost use Rattle.life_cells.specs.Boxes.{IsInRange};
-ghost use Rattle.life_rle.specs.Text.{Means, WordMeans};
-ghost use Rattle.life_rle.specs.Written.{IsRleText, IsBodyText, Appends, HasNoLineBreak, IsNotNegative};
+ghost use Rattle.life_rle.specs.Text.{Means};
+ghost use Rattle.life_rle.specs.Written.{IsRleText, IsBodyText, Appends, HasNoLineBreak};
 
 use crate::drawing::items_of;
 use crate::head::{frame_of, push_head};
@@ -31,7 +32,13 @@ fn text_of(alloc: Global, cells: &CellSet, note: Option<&str>) -> Result<String,
     Ok(text)
 }
 
-/// Appends the canonical text of a pattern, with a note in a comment or without. After a refusal `into` is as before.
+/// Appends the canonical text of a pattern, with a note in a comment or without.
+///
+/// The note has no line break, and coordinates are from -2^58 to 2^58.
+///
+/// # Errors
+///
+/// `NoMemory` where there is no memory for the text; `into` is then as before.
 pub fn write_rle(
     alloc: Global,
     pattern: &Pattern,
@@ -65,7 +72,13 @@ fn word_of(alloc: Global, cells: &CellSet) -> Result<String, NoMemory>
     Ok(word)
 }
 
-/// Appends the canonical body word of a set with no negative coordinate. After a refusal `into` is as before.
+/// Appends the canonical body word of a set with no negative coordinate.
+///
+/// Coordinates are at most 2^58.
+///
+/// # Errors
+///
+/// `NoMemory` where there is no memory for the word; `into` is then as before.
 pub fn write_body(alloc: Global, cells: &CellSet, into: &mut Vec<u8>) -> Result<(), NoMemory>
     requires range { IsInRange (2 ^ 58) (alive cells.now) }
     requires quadrant { IsNotNegative (alive cells.now) }

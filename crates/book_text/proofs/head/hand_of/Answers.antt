@@ -1,6 +1,6 @@
 use Rattle.std.proofs.Common.{◌≡◌, List, ℕ, subst}
 use Rattle.life_cells.specs.Cells.{alive}
-use Rattle.life_rle.specs.Text.{WordMeans}
+use Rattle.rle_items.specs.Words.{WordMeans}
 use Rattle.book_parts.specs.Limits.{IsPlaced}
 use Rattle.book_text.specs.Bodies.{SaysBody}
 use Rattle.book_text.proofs.Words.{one_meaning}

@@ -3,7 +3,7 @@ use mir.Syntax.{w64}
 use Rattle.std.proofs.lemmas.Int.{to_z-of_z}
 use Rattle.life_plane.specs.Plane.{Plane, shift}
 use Rattle.life_cells.specs.Cells.{alive}
-use Rattle.life_rle.specs.Text.{WordMeans}
+use Rattle.rle_items.specs.Words.{WordMeans}
 use Rattle.book_parts.specs.Limits.{IsPlaced}
 use Rattle.book_text.specs.Fields.{IsNumber}
 use Rattle.book_text.specs.Bodies.{SaysBody}

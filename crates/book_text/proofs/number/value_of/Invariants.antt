@@ -1,5 +1,5 @@
 use Rattle.std.proofs.Common.{◌≡◌, take}
-use Rattle.life_rle.specs.Numbers.{value}
+use Rattle.rle_items.specs.Numbers.{value}
 use Rattle.book_text.proofs.number.value_of.Given as goal
 
 -- the digits so far spell the number

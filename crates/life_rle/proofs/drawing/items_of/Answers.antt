@@ -5,9 +5,9 @@ use Rattle.std.proofs.lemmas.List.{take_all}
 use Rattle.life_cells.specs.declared.cell.Cell.{Cell}
 use Rattle.life_cells.specs.Cells.{cell}
 use Rattle.life_cells.specs.Listed.{listed}
-use Rattle.life_rle.specs.declared.item.Item.{Item}
-use Rattle.life_rle.specs.declared.item.Tag.TheVariants.{Alive}
-use Rattle.life_rle.specs.Items.{AreCells}
+use Rattle.rle_items.specs.declared.item.Item.{Item}
+use Rattle.rle_items.specs.declared.item.Tag.TheVariants.{Alive}
+use Rattle.rle_items.specs.Items.{AreCells}
 use Rattle.life_rle.specs.Drawn.{some_of, IsBehind, IsTidyFrom}
 use Rattle.life_rle.proofs.drawing.items_of.Goals as goal
 use Rattle.life_rle.proofs.drawing.items_of.Goals.{then-ne+in_ok-push_some+in_ok-push_gap, else-ne}

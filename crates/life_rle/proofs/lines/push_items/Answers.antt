@@ -2,7 +2,7 @@
 use Rattle.std.proofs.Common.{◌∙◌, sym, ap, ◌++◌, List, []}
 use Rattle.std.proofs.lemmas.List.{drop_all, append-nil}
 use Rattle.std.specs.String.{string_bytes}
-use Rattle.life_rle.specs.declared.item.Item.{Item}
+use Rattle.rle_items.specs.declared.item.Item.{Item}
 use Rattle.life_rle.specs.Written.{folded, pieces}
 use Rattle.life_rle.proofs.lines.push_items.Goals as goal
 

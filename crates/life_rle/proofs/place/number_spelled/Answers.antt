@@ -1,7 +1,7 @@
 use Rattle.std.proofs.Common.{rules, ℤ, sym, subst}
 use mir.Syntax.{w64}
 use mir.Val.{SFits}
-use Rattle.life_rle.specs.Numbers.{IsWhole}
+use Rattle.rle_items.specs.Numbers.{IsWhole}
 use Rattle.life_rle.specs.Told.{TellsNumber}
 use Rattle.std.proofs.lemmas.Int.{to_z-of_z}
 use Rattle.life_rle.proofs.Placing.{told_minus, told_plain}

@@ -1,4 +1,4 @@
-use Rattle.life_rle.proofs.Counts.{digit_at_place}
+use Rattle.rle_items.specs.NumberLaws.{digit_at_place}
 use Rattle.life_rle.proofs.Placing.{size_more}
 use Rattle.life_rle.proofs.place.size_of.Goals as goal
 

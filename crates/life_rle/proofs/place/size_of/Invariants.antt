@@ -1,5 +1,5 @@
 use Rattle.std.proofs.Common.{◌<◌, ◌^◌, take}
-use Rattle.life_rle.specs.Numbers.{value}
+use Rattle.rle_items.specs.Numbers.{value}
 use Rattle.life_rle.specs.Told.{TellsSize}
 use Rattle.life_rle.proofs.place.size_of.Given as goal
 

@@ -3,14 +3,14 @@ use Rattle.std.proofs.Common.{◌≡◌, ◌∙◌, sym, ap, subst, ℤ, w64, to
 use Rattle.std.proofs.lemmas.Int.{ints}
 use Rattle.std.specs.Option.{option_copied}
 use Rattle.std.specs.String.{string_bytes}
-use Rattle.life_rle.specs.declared.item.Item.{Item}
+use Rattle.rle_items.specs.declared.item.Item.{Item}
 use Rattle.life_rle.specs.Written.{folded, pieces}
 use Rattle.life_plane.specs.Plane.{Plane}
 use Rattle.life_cells.specs.declared.cell.Cell.{Cell}
 use Rattle.life_cells.specs.Cells.{alive}
 use Rattle.life_cells.specs.Listed.{listed}
 use Rattle.life_cells.specs.Boxes.{IsInRange}
-use Rattle.life_rle.specs.Items.{AreCells}
+use Rattle.rle_items.specs.Items.{AreCells}
 use Rattle.life_rle.specs.Drawn.{IsTidyFrom}
 use Rattle.life_rle.proofs.Framing.{frame_behind}
 use Rattle.life_rle.proofs.Whole.{alive_listed, written}

@@ -4,10 +4,10 @@ use Rattle.std.proofs.lemmas.List.{take_all}
 use Rattle.std.specs.List.{flat_map}
 use Rattle.std.specs.String.{string_bytes}
 use Rattle.life_plane.specs.Plane.{Plane}
+use Rattle.rle_items.specs.Words.{item_text}
 use Rattle.life_cells.specs.Cells.{alive}
 use Rattle.life_cells.specs.Boxes.{IsInRange}
-use Rattle.life_rle.specs.declared.item.Item.{Item}
-use Rattle.life_rle.specs.Written.{item_text}
+use Rattle.rle_items.specs.declared.item.Item.{Item}
 use Rattle.life_rle.specs.Drawn.{IsBehind}
 use Rattle.life_rle.proofs.Spelled.{word_whole}
 use Rattle.life_rle.proofs.Whole.{alive_listed, behind_origin, word_written}

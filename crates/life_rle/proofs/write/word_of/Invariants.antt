@@ -1,8 +1,8 @@
 -- The items before the index are written.
+use Rattle.rle_items.specs.Words.{item_text}
 use Rattle.std.proofs.Common.{◌≡◌, map, take}
 use Rattle.std.specs.List.{flat_map}
 use Rattle.std.specs.String.{string_bytes}
-use Rattle.life_rle.specs.Written.{item_text}
 use Rattle.life_rle.proofs.write.word_of.Given as goal
 
 abbrev pub invariant-loop-item : goal.invariant-loop-item

@@ -1,9 +1,9 @@
 -- A cell of 16 bits is near, and none of it is negative.
 use Rattle.std.proofs.Common.{◌∙◌, ap, ◌^◌}
 use Rattle.std.proofs.lemmas.Result.{IfOk-weaker}
+use Rattle.rle_items.specs.Words.{IsNotNegative}
 use Rattle.life_cells.specs.Cells.{alive, from_list}
 use Rattle.life_cells.specs.Boxes.{IsInRange}
-use Rattle.life_rle.specs.Written.{IsNotNegative}
 use Rattle.life_rle.proofs.Samples.{corner_range, corner_quadrant}
 use Rattle.life_rle.proofs.write.tests.corner_cells.Goals as goal
 

@@ -1,5 +1,0 @@
-use Rattle.life_rle.proofs.OneReading.{fine_or_refused}
-use Rattle.life_rle.proofs.laws.fine_words_have_no_refusal.Goals as goal
-
-pub returns : goal.returns
-returns c = fine_or_refused

@@ -1,0 +1,16 @@
+//! Items of Golly's RLE: counts and tags, the cursor that they move, and body words, which are items alone.
+//! x goes right and y goes down; the first item of a word stands at (0,0).
+#![tactic(auto)]
+
+pub mod body;
+pub mod cells;
+pub mod cursor;
+pub mod digits;
+pub mod error;
+pub mod front;
+pub mod item;
+pub mod laws;
+pub mod reach;
+
+pub use body::read_body;
+pub use error::BodyError;
