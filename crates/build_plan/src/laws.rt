@@ -1,12 +1,17 @@
-//! Laws of targets: a target has no refusal, and what is none has one.
+//! Laws of targets: nothing is one, a target has no refusal, and what is none has one.
 
 ghost use Rattle.std.specs.Prelude.{◌≡◌, ◌≢◌};
-ghost use Rattle.life_plane.specs.Plane.{Plane};
+ghost use Rattle.life_plane.specs.Plane.{Plane, nothing};
 ghost use Rattle.build_plan.specs.Targets.{IsTarget, TargetIsRefused};
 ghost use Rattle.build_plan.specs.declared.refusal.TargetError.{TargetError};
 
 use crate::refusal::TargetError;
 use life_islands::laws::sets_have_one_list_of_islands;
+
+/// Nothing is a target.
+pub fn nothing_is_a_target()
+    ensures { IsTarget nothing }
+{}
 
 /// A target has no refusal, want of memory aside.
 pub fn targets_have_no_refusal()

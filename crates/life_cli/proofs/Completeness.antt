@@ -2,10 +2,9 @@
 use Rattle.std.specs.Prelude.{◌≡◌, ◌≢◌, ℕ, pos, ◌+ℤ◌, ◌≤ℤ◌, List, [], ◌∷◌, length, codes, IfSome}
 use Rattle.std.specs.declared.option.Option.{Option}
 use Rattle.std.specs.declared.option.Option.TheVariants.{Some, None}
-use Rattle.std.proofs.lemmas.Bool.{true≢false}
-use Rattle.std.proofs.Common.{refl, sym, ap, subst, ◌∙◌, arith, inl, inr}
+use Rattle.std.proofs.Common.{sym, ap, subst, ◌∙◌, arith, inl, inr}
 use Rattle.std.specs.Str.Parse.{digits_value}
-use Rattle.life_plane.specs.Plane.{Plane, IsStill, nothing, step}
+use Rattle.life_plane.specs.Plane.{Plane, IsStill, nothing}
 use Rattle.life_cells.specs.Cells.{Cells, alive}
 use Rattle.life_cells.specs.declared.cell.Cell.{Cell}
 use Rattle.life_io.specs.Texts.{HeldText, text_of}
@@ -17,7 +16,6 @@ use Rattle.book_parts.specs.declared.kind.RawKind.{RawKind}
 use Rattle.book_parts.specs.declared.turn.RawTurn.{RawTurn}
 use Rattle.book_text.specs.Book.{Said, Says, StopsWith}
 use Rattle.book_text.specs.declared.error.BookError as book
-use Rattle.life_islands.specs.Joined.{Lives}
 use Rattle.build_plan.specs.Targets.{IsTarget, TargetIsRefused}
 use Rattle.build_plan.specs.declared.refusal.TargetError as target
 use Rattle.recipe_turn.specs.Checked.{AreValid}
@@ -48,6 +46,7 @@ pub record PartsAreExact : Type 0 where
   pub book_read : (text : List ℕ) (said : Said) (e : book.BookError) → Says text said → (said.settings.wall +ℤ pos 9) ≤ℤ said.settings.reach → StopsWith text e → e ≡ book.TheVariants.Memory
   pub one_plane : (text : List ℕ) (s t : Plane) → Means text s → Means text t → s ≡ t
   pub pattern_read : (text : List ℕ) (e : rle.RleError) → IsFineText text → TextStopsWith text e → e ≢ rle.TheVariants.Memory → ⊥
+  pub empty_taken : IsTarget nothing
   pub target_taken : (s : Plane) (e : target.TargetError) → IsTarget s → TargetIsRefused s e → e ≡ target.TheVariants.Memory
   pub one_list : (settings : Settings) (kinds : List RawKind) (turns a b : List RawTurn) → AreTheSound settings kinds turns a → AreTheSound settings kinds turns b → a ≡ b
   pub book_taken : (settings : Settings) (hand : Cells) (kinds : List RawKind) (start : ℕ) (turns sound : List RawTurn) (count : ℕ) (e : check.BookRefusal) →
@@ -159,19 +158,6 @@ builds x said other b r = absurd r
 empty_has_none : (c : Cell) → IsFirstLive nothing c → ⊥
 empty_has_none c first = let live = first.is in cc
 
-nothing_lives : {P : Type 0} (c : Cell) → Lives nothing c → P
-nothing_lives c h = absurd (true≢false (sym h))
-
--- nothing is a target
-empty_is_target : IsTarget nothing
-unfolding step
-empty_is_target = record {
-  narrow = inl refl;
-  still = refl;
-  islands = (0, (([], (record { each = tt; all = λ c h. nothing_lives c h; in_order = tt }, refl)), omega arith));
-  range = record { x_low = λ x y h. absurd (true≢false (sym h)); x_high = λ x y h. absurd (true≢false (sym h)); y_low = λ x y h. absurd (true≢false (sym h)); y_high = λ x y h. absurd (true≢false (sym h)) };
-}
-
 -- a text that means nothing means nothing else
 one_empty : PartsAreExact → (texts : List HeldText) (name : List ℕ) (s : Plane) → HoldsEmpty texts name → HoldsPattern texts name s → s ≡ nothing
 one_empty x texts name s d held = x.one_plane d.text s nothing (subst (λ (text : List ℕ). Means text s) (one_text texts name held.text d.text held.held.held d.held.held) held.means) d.means
@@ -191,7 +177,7 @@ compiles x texts b t before now (BadRle which e) d r =
     absurd (fine_read x texts t d.1.1.0.text found.0 e d.1.1.0.held d.1.1.0.fine found.1.0 found.1.1 r.1.0)
 compiles x texts b t before now (BadTarget e) d r =
     let same = one_empty x texts t r.1.1.0 d.1.1.0 r.1.1.1.0 in
-    absurd (r.1.1.1.1.0 (x.target_taken nothing e empty_is_target (subst (λ (s : Plane). TargetIsRefused s e) same r.1.1.1.1.1)))
+    absurd (r.1.1.1.1.0 (x.target_taken nothing e x.empty_taken (subst (λ (s : Plane). TargetIsRefused s e) same r.1.1.1.1.1)))
 compiles x texts b t before now (NotYet c) d r =
     let same = one_empty x texts t r.1.1.0 d.1.1.0 r.1.1.1.0 in
     absurd (empty_has_none c (subst (λ (s : Plane). IsFirstLive s c) same r.1.1.1.1.1))

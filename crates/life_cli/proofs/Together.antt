@@ -5,7 +5,7 @@ use Rattle.std.specs.Prelude.{◌≡◌, ℕ, Bool, true, false, List, IfOk, IfE
 use Rattle.std.specs.declared.option.Option.{Option}
 use Rattle.std.specs.declared.option.Option.TheVariants.{Some, None}
 use Rattle.std.proofs.Common.{refl, sym, ap, subst, ◌∙◌}
-use Rattle.life_plane.specs.Plane.{Plane, nothing}
+use Rattle.life_plane.specs.Plane.{Plane, nothing, run}
 use Rattle.life_cells.specs.Cells.{cell}
 use Rattle.life_cells.specs.Difference.{IsFirstDifference}
 use Rattle.life_cells.specs.declared.cell.Cell.{Cell}
@@ -15,7 +15,10 @@ use Rattle.book_text.specs.Book.{Said, IsBook}
 use Rattle.life_cli.specs.declared.status.Which.TheVariants.{Book, Target, Pattern}
 use Rattle.life_cli.specs.declared.status.Status.{Status}
 use Rattle.life_cli.specs.declared.status.Status.TheVariants.{ReadFault, TooLong, BadRle, BadBookText, BadTarget, BadBook, NoPlan, StreamLong, Memory, NotYet}
+use Rattle.life_rle.specs.Text.{Means}
+use Rattle.life_rle.specs.Written.{IsRleText}
 use Rattle.life_cli.specs.Compiled.{IsAnswer, AnswersBook}
+use Rattle.life_cli.specs.Replayed.{IsReplay}
 use Rattle.life_cells.specs.Firsts.{IsFirstLive}
 use Rattle.life_cli.specs.Causes.{HoldsBook, HoldsPattern, BookReadingIsRefused, PatternReadingIsRefused, TargetIsRefused, TargetReadingIsRefused, BuildingIsRefused, CompilingIsRefused}
 
@@ -97,6 +100,12 @@ answer_given (Some texts) book target raw said (Ok bytes) is h k f =
       target_held = k.held;
       compiled = f said is h.text k.text h.reads k.means;
     }
+
+-- the text of a later generation of a pattern that is held answers `replay`
+pub replayed : (told : Option (List HeldText)) (name : List ℕ) (n : ℕ) (s : Plane) (bytes : List ℕ) → IfSome told (λ texts. HoldsPattern texts name s) → IsRleText (run n s) None bytes → Means bytes (run n s) →
+    IfSome told (λ texts. IsReplay texts name n bytes)
+replayed None name n s bytes h written means = tt
+replayed (Some texts) name n s bytes h written means = record { text = h.text; held = h.held; replayed = record { pattern = s; pattern_is = h.means; written = written; means = means } }
 
 -- the first live cell of a plane is the first in which it differs from nothing
 pub first_live : (s t : Plane) (c : Cell) → t ≡ nothing → IsFirstDifference c s t → IsFirstLive s c

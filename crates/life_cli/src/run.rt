@@ -23,7 +23,7 @@ use crate::requests::answer;
 use crate::status::Status;
 use crate::words::read_words;
 use book_text::laws::{books_have_no_refusal, texts_say_one_book};
-use build_plan::laws::targets_have_no_refusal;
+use build_plan::laws::{nothing_is_a_target, targets_have_no_refusal};
 use life_io::{Depot, PutError, Sink};
 use life_rle::laws::{fine_texts_have_no_refusal, texts_mean_one_plane};
 use life_steps::Steps;
@@ -202,6 +202,7 @@ pub fn life_run<D: Depot, O: Sink, E: Sink, L: Ledger>(
     books_have_no_refusal();
     fine_texts_have_no_refusal();
     texts_mean_one_plane();
+    nothing_is_a_target();
     targets_have_no_refusal();
     sound_turns_are_one();
     taken_books_have_no_refusal();

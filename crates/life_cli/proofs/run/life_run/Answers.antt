@@ -8,6 +8,7 @@ returns-clause-complete g c =
       book_read = c.books_have_no_refusal.ensures;
       one_plane = c.texts_mean_one_plane.ensures;
       pattern_read = c.fine_texts_have_no_refusal.ensures;
+      empty_taken = c.nothing_is_a_target.ensures;
       target_taken = c.targets_have_no_refusal.ensures;
       one_list = c.sound_turns_are_one.ensures;
       book_taken = c.taken_books_have_no_refusal.ensures;
