@@ -32,7 +32,7 @@ fn words_and_targets_end_as_they_should(rt: HostRuntime) -> Result<(), Fail> {
             "compile book target",
             "#C\n x = 0, y = 0\n!\n",
             4,
-            "life: target not yet 3\n",
+            "life: target header 2\n",
         ),
         (
             "compile book target",

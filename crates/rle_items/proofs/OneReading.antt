@@ -3,9 +3,8 @@ use Rattle.std.proofs.Common.{◌≡◌, ◌≢◌, ℕ, ◌-◌, ◌≤◌, ◌
 use Rattle.std.specs.Char.{is_ascii_digit}
 use Rattle.std.proofs.lemmas.List.{append-nil}
 use Rattle.std.proofs.lemmas.Bool.{le-leb, lt-leb, and_from, and_left, and_right, cases_lt, ne_eqb}
-use Rattle.life_plane.specs.Plane.{Plane, same_plane}
+use Rattle.life_plane.specs.Plane.{Plane}
 use Rattle.life_cells.specs.Cells.{cell}
-use Rattle.life_cells.specs.declared.cell.Cell.{Cell}
 use Rattle.rle_items.specs.declared.item.Item.{Item}
 use Rattle.rle_items.specs.declared.item.Tag.{Tag}
 use Rattle.rle_items.specs.declared.error.BodyError.{BodyError}

@@ -15,7 +15,7 @@ use Rattle.rle_items.specs.declared.error.BodyError.TheVariants.{BadItem, BadCou
 use Rattle.rle_items.specs.Items.{live, is_row_end, AreCells}
 use Rattle.rle_items.specs.ItemLaws.{fine_none, fine_push, spells_push, columns_push_other}
 use Rattle.rle_items.specs.SpellingLaws.{count_some}
-use Rattle.rle_items.specs.Spelling.{SpellsItem, IsNone, IsCount}
+use Rattle.rle_items.specs.Spelling.{SpellsItem, IsNone}
 use Rattle.rle_items.specs.Words.{WordMeans}
 use Rattle.rle_items.specs.Words.{IsNotNegative}
 use Rattle.rle_items.specs.Faults.{IsNear, AreFine, IsReadTo, IsFineWord, BeginsAt, IsNext, IsFault, StopsWith}

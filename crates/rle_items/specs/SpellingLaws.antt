@@ -7,7 +7,7 @@ use Rattle.std.proofs.lemmas.Bool.{and_parts, leb-true, cases_Bool, ne_eqb, eqb-
 use Rattle.rle_items.specs.declared.item.Item.{Item}
 use Rattle.rle_items.specs.declared.item.Tag.{Tag}
 use Rattle.rle_items.specs.Spelling.{SpellsItem, Spells, IsNone, IsWhite, is_white, IsCount, tag_of}
-use Rattle.rle_items.specs.Faults.{IsAtCount, IsNext}
+use Rattle.rle_items.specs.Faults.{IsAtCount}
 
 -- ---- digits
 
