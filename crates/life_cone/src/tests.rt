@@ -1,8 +1,9 @@
 //! Boxes, strips and splits on either side of their limits, with ample memory.
 
-ghost use Rattle.std.specs.Prelude.{IfOk};
+ghost use Rattle.std.specs.Prelude.{◌^◌, IfOk};
 ghost use Rattle.life_cells.specs.Cells.{alive};
 ghost use Rattle.life_cells.specs.Boxes.{IsInRange};
+ghost use Rattle.life_cone.specs.FarBoxes.{IsBoxInRange};
 
 use crate::{box_apart, split_apart, strip_apart};
 use life_cells::{Bounds, Cell, CellSet, NoMemory};
@@ -22,7 +23,9 @@ fn set_of(alloc: Global, places: &[(i8, i8)]) -> Result<CellSet, NoMemory>
 }
 
 // A box by its corners.
-fn bounds(left: i8, top: i8, right: i8, bottom: i8) -> Bounds {
+fn bounds(left: i8, top: i8, right: i8, bottom: i8) -> Bounds
+    ensures { IsBoxInRange (2 ^ 60) result }
+{
     Bounds {
         left: i64::from(left),
         top: i64::from(top),
@@ -55,7 +58,7 @@ fn strips_at_their_limits(rt: HostRuntime) -> Result<(), Fail> {
     assert!(rt; strip_apart(&set_of(alloc, &[(-7, 2), (9, 4)])?, 0, 8));
     assert!(rt; !strip_apart(&set_of(alloc, &[(-7, 3), (9, 4)])?, 0, 8));
     assert!(rt; !strip_apart(&set_of(alloc, &[(-7, 2), (8, 4)])?, 0, 8));
-    assert!(rt; strip_apart(&CellSet::empty(alloc), 0, 8));
+    assert!(rt; strip_apart(&set_of(alloc, &[])?, 0, 8));
     Ok(())
 }
 
@@ -64,7 +67,7 @@ fn sides_at_their_limits(rt: HostRuntime) -> Result<(), Fail> {
     let alloc = rt.alloc();
     let origin = set_of(alloc, &[(0, 0)])?;
     let five = set_of(alloc, &[(5, 0)])?;
-    let nothing = CellSet::empty(alloc);
+    let nothing = set_of(alloc, &[])?;
     assert!(rt; split_apart(&origin, 0, &five));
     assert!(rt; !split_apart(&origin, 0, &set_of(alloc, &[(4, 0)])?));
     assert!(rt; !split_apart(&set_of(alloc, &[(0, 0), (1, 0)])?, 0, &five));

@@ -41,21 +41,20 @@ fn finds_each_phase(rt: HostRuntime) -> Result<(), Fail> {
 #[test]
 fn looks_only_in_front_of_the_wall(rt: HostRuntime) -> Result<(), Fail> {
     let alloc = rt.alloc();
-    let glider = [(7, -5), (8, -6), (6, -7), (7, -7), (8, -7)];
-    let mut crossed = set_of(alloc, &glider)?;
-    crossed.insert(Cell::new(30, 0))?;
-    let mut touched = set_of(alloc, &glider)?;
-    touched.insert(Cell::new(9, -7))?;
-    let mut behind = set_of(alloc, &glider)?;
-    behind.insert(Cell::new(0, 0))?;
-    behind.insert(Cell::new(3, -5))?;
+    let crossed = [(7, -5), (8, -6), (6, -7), (7, -7), (8, -7), (30, 0)];
+    let touched = [(7, -5), (8, -6), (6, -7), (7, -7), (8, -7), (9, -7)];
+    let crossed = set_of(alloc, &crossed)?;
+    let touched = set_of(alloc, &touched)?;
+    let both_sides = [(7, -5), (8, -6), (6, -7), (7, -7), (8, -7), (0, 0), (3, -5)];
+    let both_sides = set_of(alloc, &both_sides)?;
     let at_the_wall = set_of(alloc, &[(2, 0), (3, -1), (1, -2), (2, -2), (3, -2)])?;
-    let four = set_of(alloc, &glider[1..])?;
+    let four = set_of(alloc, &[(8, -6), (6, -7), (7, -7), (8, -7)])?;
+    let nothing = set_of(alloc, &[])?;
     assert_eq!(rt; find_salvo_glider(&crossed, 4), None);
     assert_eq!(rt; find_salvo_glider(&touched, 4), None);
-    assert_eq!(rt; find_salvo_glider(&behind, 4), Some((1, 20)));
+    assert_eq!(rt; find_salvo_glider(&both_sides, 4), Some((1, 20)));
     assert_eq!(rt; find_salvo_glider(&at_the_wall, 4), None);
     assert_eq!(rt; find_salvo_glider(&four, 4), None);
-    assert_eq!(rt; find_salvo_glider(&CellSet::empty(alloc), 4), None);
+    assert_eq!(rt; find_salvo_glider(&nothing, 4), None);
     Ok(())
 }
