@@ -2,15 +2,14 @@
 //! on its lane; x goes right and y goes down.
 #![tactic(auto)]
 
-pub mod checked_salvo;
+mod boxes;
 pub mod hand;
 pub mod hit;
 pub mod laws;
 pub mod refusal;
+mod rest;
 pub mod striking;
 
-pub use checked_salvo::{CheckedSalvo, check_salvo};
 pub use hand::{Hand, check_hand};
 pub use hit::Hit;
-pub use refusal::{HandRefusal, HitRefusal, SalvoRefusal};
-pub use striking::hit;
+pub use refusal::{HandRefusal, HitRefusal};

@@ -1,0 +1,8 @@
+-- Lemmas of this crate's own proofs.
+pub mod Tests
+pub mod Joining
+pub mod Resting
+pub mod Starting
+pub mod Hitting
+pub mod OneHit
+pub mod Earlier
