@@ -1,5 +1,5 @@
 -- A hit is the same from further back.
-use Rattle.std.proofs.Common.{◌≡◌, ℕ, zero, suc, ◌+◌, ◌<◌, ◌≤◌, ◌⊎◌, inl, inr, ℤ, pos, ◌+ℤ◌, ◌-ℤ◌, ◌*ℤ◌, ◌≤ℤ◌, refl, sym, ap, subst, ◌∙◌, arith}
+use Rattle.std.proofs.Common.{◌≡◌, ℕ, zero, suc, ◌+◌, ◌-◌, ◌<◌, Bool, true, false, ◌||◌, ◌≤◌, ◌⊎◌, inl, inr, ℤ, pos, ◌+ℤ◌, ◌-ℤ◌, ◌*ℤ◌, ◌≤ℤ◌, refl, sym, ap, subst, ◌∙◌, arith}
 use Rattle.std.proofs.lemmas.Int.{ints}
 use Rattle.std.proofs.lemmas.Bool.{cases_lt}
 use Rattle.life_plane.specs.Plane.{Plane, run, step, union, IsStill}
@@ -48,11 +48,62 @@ module _ (struck : Plane) (box : Bounds) (lane : ℤ) (still : IsStill struck) (
       let turned : back + n ≡ n + back = omega arith in
       ap (λ k. run k (start_before back struck box lane)) turned ∙ run-add n back (start_before back struck box lane) ∙ ap (run n) (comes back)
 
-  -- a glider on its way is not still
-  moving : (back t : ℕ) → t < back → (IsStill (run 0 (hit_start struck box lane)) → ⊥) → IsStill (run t (start_before back struck box lane)) → ⊥
-  moving back t lt begins_moving rests =
-      let rest : ℕ = back - t in ?
+  -- what is still on its way is still where the hit begins
+  still_there : (back t : ℕ) → t < back → IsStill (run t (start_before back struck box lane)) → IsStill (hit_start struck box lane)
+  still_there back t lt rests =
+      let back_is : (back - t) + t ≡ back = omega arith in
+      let same : hit_start struck box lane ≡ run t (start_before back struck box lane) =
+      sym (comes back) ∙ ap (λ k. run k (start_before back struck box lane)) (sym back_is) ∙ run-add (back - t) t (start_before back struck box lane)
+      ∙ still_run (run t (start_before back struck box lane)) rests (back - t) in
+      subst IsStill (sym same) rests
 
--- how many of the generations are in it
-in_ever : (n t : ℕ) (s : Plane) (x y : ℤ) → t ≤ n → run t s x y ≡ true → ever n s x y ≡ true
-in_ever n t s x y le l = ?
+  -- the first still generation comes so many later
+  pub rests_later : (back n : ℕ) → ComesToRest (hit_start struck box lane) n → 0 < n → ComesToRest (start_before back struck box lane) (back + n)
+  rests_later back n rest lasts = record {
+    still = subst IsStill (sym (comes_later back n)) rest.still;
+    first = λ t lt still_then. elim (cases_lt t back) [
+      | inl before ↦ rest.first 0 lasts (still_there back t before still_then)
+      | inr after ↦
+          let t_is : t ≡ back + (t - back) = omega arith in
+          rest.first (t - back) (omega arith) (subst IsStill (ap (λ k. run k (start_before back struck box lane)) t_is ∙ comes_later back (t - back)) still_then)
+    ];
+  }
+
+in_left : (a b : Bool) → a ≡ true → (a || b) ≡ true
+in_left a b h = ap (λ c. c || b) h
+
+in_right : (a b : Bool) → b ≡ true → (a || b) ≡ true
+in_right true b h = refl
+in_right false b h = h
+
+-- each generation up to the last is in all of them
+pub in_ever : (n t : ℕ) (s : Plane) (x y : ℤ) → t ≤ n → run t s x y ≡ true → ever n s x y ≡ true
+in_ever zero t s x y le l = let first : t ≡ 0 = omega arith in subst (λ k. run k s x y ≡ true) first l
+in_ever (suc n) t s x y le l = by (cases_lt t (suc n)) (λ early. in_ever n t s x y early l)
+  where
+    by : (t < suc n) ⊎ (suc n ≤ t) → (t ≤ n → ever n s x y ≡ true) → ever (suc n) s x y ≡ true
+    by (inl lt) rest = in_left (ever n s x y) (run (suc n) s x y) (rest (omega arith))
+    by (inr ge) rest = let last : t ≡ suc n = omega arith in in_right (ever n s x y) (run (suc n) s x y) (subst (λ k. run k s x y ≡ true) last l)
+
+-- a hit lasts
+pub lasts : (struck : Plane) (lane : ℤ) (hit : Hit) → IsStill struck → IsHit struck lane hit → 0 < hit.generations
+lasts struck lane hit still h =
+    let four = scene.hit_lasts struck (scene_box h.box) lane (first_quarter h.box lane) hit.generations (run hit.generations (hit_start struck h.box lane)) (scene_box hit.frame.bounds) still (record {
+      fits = held h.box struck h.box_is.holds;
+      begins = refl;
+      ends = refl;
+      still = h.rests.still;
+      first = h.rests.first;
+      inside = λ t le x y l. held hit.frame.bounds (ever hit.generations (hit_start struck h.box lane)) h.bounds.holds x y (in_ever hit.generations t (hit_start struck h.box lane) x y le l);
+    }) in
+    omega arith
+
+-- the hit is the same from further back
+pub same_from_further_back : (struck : Plane) (lane : ℤ) (hit : Hit) → IsStill struck → IsHit struck lane hit → (back : ℕ) → IsHitFrom back struck lane hit
+same_from_further_back struck lane hit still h back = record {
+  box = h.box;
+  box_is = h.box_is;
+  later = comes_later struck h.box lane still h.box_is.holds back;
+  rests = rests_later struck h.box lane still h.box_is.holds back hit.generations h.rests (lasts struck lane hit still h);
+  leaves = h.leaves ∙ sym (comes_later struck h.box lane still h.box_is.holds back hit.generations);
+}

@@ -42,9 +42,9 @@ lives_not_nothing s l e = true≢false (sym l.1.1 ∙ ap (λ (p : Plane). p l.0 
 
 -- where there is a hit it is not refused
 pub no_hit_refusal : (struck : Plane) (lane : ℤ) (h : Hit) (e : HitRefusal) → IsHit struck lane h → HitIsRefused struck lane e → e ≡ hit.Memory
-no_hit_refusal struck lane h hit.Empty is no = absurd (lives_not_nothing struck is.box_is.lives no)
-no_hit_refusal struck lane h (hit.NotSettled after) is no = absurd (no.1.1 h is)
-no_hit_refusal struck lane h hit.Memory is no = refl
+no_hit_refusal struck lane h hit.Empty is empty = absurd (lives_not_nothing struck is.box_is.lives empty)
+no_hit_refusal struck lane h (hit.NotSettled after) is none = absurd (none.1.1 h is)
+no_hit_refusal struck lane h hit.Memory is none = refl
 
 -- a hit has one refusal
 pub one_hit_refusal : (struck : Plane) (lane : ℤ) (e f : HitRefusal) → HitIsRefused struck lane e → HitIsRefused struck lane f → e ≢ hit.Memory → f ≢ hit.Memory → e ≡ f
@@ -58,8 +58,8 @@ one_hit_refusal struck lane hit.Memory f h k other another = absurd (other refl)
 
 -- a hand has no refusal
 pub no_hand_refusal : (s : Plane) (e : HandRefusal) → IsHand s → HandIsRefused s e → e ≡ hand.Memory
-no_hand_refusal s (hand.NotStill c) is no = absurd (no.is (ap (λ (p : Plane). p c.x c.y) is.still))
-no_hand_refusal s hand.Memory is no = refl
+no_hand_refusal s (hand.NotStill c) is change = absurd (change.is (ap (λ (p : Plane). p c.x c.y) is.still))
+no_hand_refusal s hand.Memory is change = refl
 
 -- a set has one refusal as a hand
 pub one_hand_refusal : (s : Plane) (e f : HandRefusal) → HandIsRefused s e → HandIsRefused s f → e ≢ hand.Memory → f ≢ hand.Memory → e ≡ f
