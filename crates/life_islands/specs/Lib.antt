@@ -1,0 +1,10 @@
+-- Islands of a set of cells, their order and their shapes.
+pub mod Joined
+pub mod JoinedLaws
+pub mod Islands
+pub mod IslandLaws
+pub mod Order
+pub mod OrderLaws
+pub mod Shapes
+pub mod Search
+pub mod Ranks

@@ -1,0 +1,49 @@
+-- The laws of the order of islands.
+use Rattle.std.specs.Prelude.{◌≡◌, ◌⊎◌, ℤ, ◌≤ℤ◌, ◌<ℤ◌}
+use Rattle.std.proofs.Common.{refl, sym, ap, subst, ◌∙◌, arith, inl, inr}
+use Rattle.std.proofs.lemmas.Int.{ints}
+use Rattle.std.specs.declared.cmp.Ordering.{Ordering}
+use Rattle.std.specs.declared.cmp.Ordering.TheVariants.{Less, Equal, Greater}
+use Rattle.std.specs.Ordering.{ordering_reverse}
+use Rattle.life_cells.specs.Cells.{alive, cell_cmp}
+use Rattle.life_cells.specs.Order.{cells_total, cells_antisymmetric}
+use Rattle.life_cells.specs.declared.cell.Cell.{Cell}
+use Rattle.life_islands.specs.declared.island.Island.{Island}
+use Rattle.life_islands.specs.Order.{IsGreatestU, IsFirstCell, ComesBefore}
+use Rattle.life_plane.specs.Plane.{Plane}
+
+-- a plane has one greatest u
+pub one_greatest_u : (s : Plane) (u v : ℤ) → IsGreatestU u s → IsGreatestU v s → u ≡ v
+one_greatest_u s u v h k =
+    let low = k.each h.there.0 h.there.1.0 in
+    let high = h.each k.there.0 k.there.1.0 in
+    let at = h.there.1.1 in
+    let other = k.there.1.1 in
+    omega (arith, ints)
+
+-- a plane has one first cell
+pub one_first_cell : (s : Plane) (a b : Cell) → IsFirstCell a s → IsFirstCell b s → a ≡ b
+one_first_cell s a b h k = by (cell_cmp a b) refl
+  where
+    by : (o : Ordering) → cell_cmp a b ≡ o → a ≡ b
+    by Less e = absurd (k.none_before a e h.lives)
+    by Equal e = cells_antisymmetric a b e
+    by Greater e = absurd (h.none_before b (cells_total.antisymm b a ∙ ap ordering_reverse e) k.lives)
+
+not_both : (a b : Cell) → cell_cmp a b ≡ Less → cell_cmp b a ≡ Less → ⊥
+not_both a b h k = let e : cell_cmp b a ≡ Greater = cells_total.antisymm b a ∙ ap ordering_reverse h in cc
+
+-- of two islands not each comes before the other
+pub one_comes_before : (a b : Island) → ComesBefore a b → ComesBefore b a → ⊥
+one_comes_before a b h k =
+    by (one_greatest_u (alive a.cells) h.u k.other h.greatest k.greatest_other) (one_greatest_u (alive b.cells) h.other k.u h.greatest_other k.greatest) h.before k.before
+  where
+    by : h.u ≡ k.other → h.other ≡ k.u → (h.other <ℤ h.u) ⊎ ((h.u ≡ h.other) × (cell_cmp a.first b.first ≡ Less)) → (k.other <ℤ k.u) ⊎ ((k.u ≡ k.other) × (cell_cmp b.first a.first ≡ Less)) → ⊥
+    by e f (inl p) (inl q) = omega (arith, ints)
+    by e f (inl p) (inr q) = let same = q.0 in omega (arith, ints)
+    by e f (inr p) (inl q) = let same = p.0 in omega (arith, ints)
+    by e f (inr p) (inr q) = not_both a.first b.first p.1 q.1
+
+-- an island doesn't come before itself
+pub not_before_itself : (a : Island) → ComesBefore a a → ⊥
+not_before_itself a h = one_comes_before a a h h

