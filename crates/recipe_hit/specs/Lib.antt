@@ -5,3 +5,6 @@ pub mod Refusals
 pub mod Rest
 pub mod Joins
 pub mod FurtherBack
+pub mod Sound
+pub mod SalvoRefusals
+pub mod Checked
