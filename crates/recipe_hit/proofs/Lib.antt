@@ -6,3 +6,7 @@ pub mod Starting
 pub mod Hitting
 pub mod OneHit
 pub mod Earlier
+pub mod Nearness
+pub mod Places
+pub mod Ends
+pub mod InTurn

@@ -26,10 +26,10 @@ fn row_is_close(cells: &CellSet, x: i64, y: i64) -> bool
     requires { IsCoordinate x }
     ensures { IsTrue result ↔ CloseInRow (alive cells.now) x y }
 {
-    let far_left = cells.contains(Cell::new(x - 2, y));
-    let left = cells.contains(Cell::new(x - 1, y));
-    let level = cells.contains(Cell::new(x, y));
-    let right = cells.contains(Cell::new(x + 1, y));
-    let far_right = cells.contains(Cell::new(x + 2, y));
+    let far_left = cells.contains(Cell { y, x: x - 2 });
+    let left = cells.contains(Cell { y, x: x - 1 });
+    let level = cells.contains(Cell { y, x });
+    let right = cells.contains(Cell { y, x: x + 1 });
+    let far_right = cells.contains(Cell { y, x: x + 2 });
     far_left | left | level | right | far_right
 }
