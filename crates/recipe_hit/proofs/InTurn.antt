@@ -6,7 +6,9 @@ use Rattle.life_plane.specs.Plane.{Plane, run, union}
 use Rattle.life_plane.specs.Salvo.{salvo_glider, salvo_front, salvo_range, salvo_corner}
 use Rattle.life_cells.specs.Cells.{Cells, alive}
 use Rattle.life_cells.specs.Boxes.{IsInRange, IsLeastBox}
+use Rattle.life_cells.specs.BoxLaws.{range_wider}
 use Rattle.book_parts.specs.Limits.{IsCoordinate}
+use Rattle.book_parts.specs.Proper.{IsProperHand}
 use Rattle.recipe_hit.specs.declared.hit.Hit.{Hit}
 use Rattle.recipe_hit.specs.Strike.{first_quarter, hit_start, ever, IsHit}
 use Rattle.recipe_hit.specs.Sound.{AreHits, what_is_left}
@@ -28,6 +30,9 @@ left_at start (one ∷ (other ∷ hits)) hit (suc k) n at = left_at (alive one.a
 pub left_last : (start : Plane) (hits : List Hit) (hit : Hit) → Some hit ≡ slice_get hits (length hits - 1) → alive hit.after ≡ what_is_left start hits
 left_last start [] hit at = cc
 left_last start (one ∷ hits) hit at = left_at start (one ∷ hits) hit (length (one ∷ hits) - 1) (omega arith) at
+
+pub left_is : (start left : Plane) (hits read : List Hit) → left ≡ what_is_left start read → read ≡ hits → left ≡ what_is_left start hits
+left_is start left hits read is same = is ∙ ap (what_is_left start) same
 
 -- one hit more
 pub left_more : (start : Plane) (hits : List Hit) (hit : Hit) → what_is_left start (hits ++ hit ∷ []) ≡ alive hit.after
@@ -105,3 +110,25 @@ small_frame n struck lane hit few on range h =
       right = record { low = omega (arith, ints, b.right_low); high = omega (arith, ints, b.right_high) };
       bottom = record { low = omega (arith, ints, b.bottom_low); high = omega (arith, ints, b.bottom_high) };
     }
+
+-- the hand's range
+pub hand_range : (s : Plane) → IsProperHand s → IsInRange (2 ^ 30) s
+hand_range s h = record {
+  x_low = λ x y l. let k = h.x x y l in omega (arith, ints, k.low);
+  x_high = λ x y l. (h.x x y l).high;
+  y_low = λ x y l. let k = h.y x y l in omega (arith, ints, k.low);
+  y_high = λ x y l. (h.y x y l).high;
+}
+
+-- one hit more at a hand: its frame is small, and what it leaves lies not much further out
+pub small_after : (struck : Plane) (hits all : List Hit) (place : ℕ) (lane : ℤ) (hit : Hit) → place < 64 → IsCoordinate lane → IsInRange (2 ^ 30 + 8192 * place) struck → IsHit struck lane hit →
+    all ≡ hits ++ hit ∷ [] → AreSmallFrames hits → AreSmallFrames all
+small_after struck hits all place lane hit few on range is grown before =
+    subst AreSmallFrames (sym grown) (small_more hits hit before (small_frame (2 ^ 30 + 8192 * place) struck lane hit (omega arith) on range is))
+
+pub range_after : (start struck : Plane) (hits all : List Hit) (place : ℕ) (lane : ℤ) (hit : Hit) → IsInRange (2 ^ 30 + 8192 * place) struck → IsHit struck lane hit → all ≡ hits ++ hit ∷ [] →
+    IsInRange (2 ^ 30 + 8192 * (place + 1)) (what_is_left start all)
+range_after start struck hits all place lane hit range is grown =
+    let left : what_is_left start all ≡ alive hit.after = ap (what_is_left start) grown ∙ left_more start hits hit in
+    subst (IsInRange (2 ^ 30 + 8192 * (place + 1))) (sym left)
+    (range_wider ((2 ^ 30 + 8192 * place) + 8192) (2 ^ 30 + 8192 * (place + 1)) (alive hit.after) (after_range (2 ^ 30 + 8192 * place) struck lane hit range is) (omega arith))

@@ -10,3 +10,4 @@ pub mod Nearness
 pub mod Places
 pub mod Ends
 pub mod InTurn
+pub mod Missing
