@@ -11,3 +11,4 @@ pub mod Places
 pub mod Ends
 pub mod InTurn
 pub mod Missing
+pub mod OneSalvo
