@@ -14,6 +14,8 @@ pub mod refusal;
 mod rest;
 mod soundness;
 pub mod striking;
+#[cfg(test)]
+mod tests;
 
 pub use checked_salvo::{CheckedSalvo, check_salvo};
 pub use hand::{Hand, check_hand};
