@@ -1,16 +1,15 @@
 -- Cells that are added to others.
-use Rattle.std.proofs.Common.{◌≡◌, ◌⊎◌, ℕ, zero, suc, ◌+◌, ◌<◌, ◌≤◌, Bool, true, false, List, [], ◌∷◌, ◌++◌, length, get_or, Option, Some, refl, sym, ap, subst, ◌∙◌, arith, inl, inr}
+use Rattle.std.proofs.Common.{◌≡◌, ◌⊎◌, ℕ, zero, suc, ◌+◌, ◌<◌, ◌≤◌, Bool, true, false, List, [], ◌∷◌, ◌++◌, length, Option, Some, refl, sym, ap, subst, ◌∙◌, arith, inl, inr}
 use Rattle.std.specs.Prelude.{◌||◌}
 use Rattle.std.specs.Bool.{if◌then◌else◌}
 use Rattle.std.specs.List.{AllByRecursion, list_any, slice_get}
 use Rattle.std.proofs.lemmas.List.{append_assoc}
-use Rattle.std.proofs.lemmas.Option.{slice_get_within, slice_get-get_or}
+use Rattle.std.proofs.lemmas.Option.{slice_get_within}
 use Rattle.indexmap.specs.IndexSet.{insert_key}
 use Rattle.life_cells.specs.declared.cell.Cell.{Cell}
-use Rattle.life_cells.specs.Cells.{cell}
 use Rattle.life_cells.specs.Laws.{listed-append_at, listed_at_place, place_of_listed}
 use Rattle.life_cells.specs.Listed.{same_cell, listed}
-use Rattle.life_cells.specs.Order.{same_cell_is, same_cell-itself}
+use Rattle.life_cells.specs.Order.{same_cell_is}
 use Rattle.life_cells.specs.Same.{same_fields}
 use Rattle.life_cells.specs.SameLaws.{same_fields_tie}
 use Rattle.life_islands.specs.Joined.{Lives}

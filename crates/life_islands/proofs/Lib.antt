@@ -2,3 +2,7 @@
 pub mod Adding
 pub mod Flooding
 pub mod Rows
+pub mod Ranking
+pub mod Noting
+pub mod Listing
+pub mod Cornering

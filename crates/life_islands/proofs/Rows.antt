@@ -1,10 +1,10 @@
 -- The cells of one row, by a search in a list that rises.
-use Rattle.std.proofs.Common.{◌≡◌, ◌⊎◌, ℕ, ◌+◌, ◌-◌, ◌<◌, ◌≤◌, Bool, true, false, List, length, take, drop, get_or, Some, Result, Ok, Err, refl, sym, ap, subst, ◌∙◌, arith, inl, inr}
+use Rattle.std.proofs.Common.{◌≡◌, ◌⊎◌, ℕ, ◌+◌, ◌-◌, ◌<◌, ◌≤◌, true, false, List, length, drop, get_or, Some, Err, refl, sym, ap, subst, ◌∙◌, arith, inl, inr}
 use Rattle.std.proofs.Common.{w64, to_z, of_z, ◌^◌}
 use Rattle.std.proofs.lemmas.Int.{to_z-of_z}
 use Rattle.std.specs.Prelude.{FitsSigned, ℤ, pos, negsuc, ◌+ℤ◌, ◌-ℤ◌, ◌≤ℤ◌, ◌<ℤ◌}
 use Rattle.std.specs.declared.cmp.Ordering.{Ordering}
-use Rattle.std.specs.declared.cmp.Ordering.TheVariants.{Less, Equal, Greater}
+use Rattle.std.specs.declared.cmp.Ordering.TheVariants.{Less, Equal}
 use Rattle.std.specs.Ordering.{is_lt, ordering_reverse}
 use Rattle.std.specs.List.{slice_get, slice_range}
 use Rattle.std.specs.List.Sorted.{IsSorted, IsBinarySearchResult}
@@ -163,21 +163,21 @@ pub adds_row : (cs : List Cell) (here : Cell) (dy : ℤ) (from to : ℕ) (before
     Adds (StepsDown (listed cs) here dy) before after
 adds_row cs here dy from to before after low high le first last adds = adds_as (Lives (listed (slice_range cs from to))) (StepsDown (listed cs) here dy) before after adds
     (λ c l.
-      let between = between_part cs from to c le l in
-      let part = row_between cs here.x (here.y +ℤ dy) from to c first last between in
-      let left = part.left in
-      let right = part.right in
-      let row = part.row in
-      record {
-        steps = record {
-          lives = listed_at_place cs between.place c between.at;
-          near = record { right = omega (arith, ints); left = omega (arith, ints); below = omega (arith, ints); above = omega (arith, ints) };
-        };
-        row = row;
-      })
+    let between = between_part cs from to c le l in
+    let part = row_between cs here.x (here.y +ℤ dy) from to c first last between in
+    let left = part.left in
+    let right = part.right in
+    let row = part.row in
+    record {
+      steps = record {
+        lives = listed_at_place cs between.place c between.at;
+        near = record { right = omega (arith, ints); left = omega (arith, ints); below = omega (arith, ints); above = omega (arith, ints) };
+      };
+      row = row;
+    })
     (λ c down.
-      let near = down.steps.near in
-      part_between cs from to c (between_row cs here.x (here.y +ℤ dy) from to c first last down.steps.lives (record { left = omega (arith, ints, near.left); right = omega (arith, ints, near.right); row = down.row })))
+    let near = down.steps.near in
+    part_between cs from to c (between_row cs here.x (here.y +ℤ dy) from to c first last down.steps.lives (record { left = omega (arith, ints, near.left); right = omega (arith, ints, near.right); row = down.row })))
 
 adds_either : (P Q : Cell → Type 0) (a b c : List Cell) → Adds P a b → Adds Q b c → Adds (λ d. P d ⊎ Q d) a c
 adds_either P Q a b c first second = adds_both P Q (λ d. P d ⊎ Q d) a b c first second (λ d p. inl p) (λ d q. inr q) (λ d r. r)

@@ -3,13 +3,13 @@ use Rattle.std.specs.Prelude.{◌≡◌, ◌⊎◌, Bool, true, false, ◌||◌,
 use Rattle.std.proofs.Common.{refl, sym, ap, subst, ◌∙◌, arith, inl, inr}
 use Rattle.std.proofs.lemmas.Int.{ints}
 use Rattle.std.specs.List.{AllByRecursion}
-use Rattle.life_cells.specs.Cells.{Cells, cell, alive}
+use Rattle.life_cells.specs.Cells.{cell, alive}
 use Rattle.life_cells.specs.Laws.{same_cells}
 use Rattle.life_cells.specs.declared.cell.Cell.{Cell}
 use Rattle.life_islands.specs.declared.island.Island.{Island}
 use Rattle.life_islands.specs.Islands.{IsIsland, IsNoted, IsInOne, AreIslands, rest_of}
-use Rattle.life_islands.specs.Joined.{Lives, Steps, AreJoined}
-use Rattle.life_islands.specs.JoinedLaws.{joined_on, joined_back, joined_step}
+use Rattle.life_islands.specs.Joined.{Lives}
+use Rattle.life_islands.specs.JoinedLaws.{joined_step}
 use Rattle.life_islands.specs.Order.{IsFirstCell, ComesBefore, AreInOrder}
 use Rattle.life_islands.specs.OrderLaws.{one_first_cell, one_comes_before, not_before_itself}
 use Rattle.life_plane.specs.Plane.{Plane, step, union, IsStill, same_plane}
@@ -132,7 +132,7 @@ island_still s t still h = same_plane (step t) t (λ x y. by x y (true_or_false 
 -- ---- lists of islands
 
 -- the noted islands of a plane that share a cell are one
-same_noted : (s : Plane) (a b : Island) (c : Cell) → IsNoted s a → IsNoted s b → Lives (alive a.cells) c → Lives (alive b.cells) c → a ≡ b
+pub same_noted : (s : Plane) (a b : Island) (c : Cell) → IsNoted s a → IsNoted s b → Lives (alive a.cells) c → Lives (alive b.cells) c → a ≡ b
 same_noted s a b c h k in_a in_b =
     let planes : alive a.cells ≡ alive b.cells = sharing_islands s (alive a.cells) (alive b.cells) h.is k.is c in_a in_b in
     let cells : a.cells ≡ b.cells = same_cells a.cells b.cells planes in

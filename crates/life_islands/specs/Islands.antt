@@ -1,5 +1,5 @@
 -- The islands of a plane.
-use Rattle.std.specs.Prelude.{◌≡◌, ◌⊎◌, ◌||◌, not, ◌&&◌, List, [], ◌∷◌}
+use Rattle.std.specs.Prelude.{◌⊎◌, not, ◌&&◌, List, [], ◌∷◌}
 use Rattle.std.specs.List.{AllByRecursion}
 use Rattle.life_cells.specs.Cells.{alive}
 use Rattle.life_cells.specs.declared.cell.Cell.{Cell}

@@ -6,5 +6,6 @@ pub mod IslandLaws
 pub mod Order
 pub mod OrderLaws
 pub mod Shapes
+pub mod ShapeLaws
 pub mod Search
 pub mod Ranks

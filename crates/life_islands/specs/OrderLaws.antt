@@ -1,6 +1,6 @@
 -- The laws of the order of islands.
-use Rattle.std.specs.Prelude.{◌≡◌, ◌⊎◌, ℤ, ◌≤ℤ◌, ◌<ℤ◌}
-use Rattle.std.proofs.Common.{refl, sym, ap, subst, ◌∙◌, arith, inl, inr}
+use Rattle.std.specs.Prelude.{◌≡◌, ◌⊎◌, ℤ, ◌<ℤ◌}
+use Rattle.std.proofs.Common.{refl, ap, ◌∙◌, arith, inl, inr}
 use Rattle.std.proofs.lemmas.Int.{ints}
 use Rattle.std.specs.declared.cmp.Ordering.{Ordering}
 use Rattle.std.specs.declared.cmp.Ordering.TheVariants.{Less, Equal, Greater}
@@ -30,7 +30,7 @@ one_first_cell s a b h k = by (cell_cmp a b) refl
     by Equal e = cells_antisymmetric a b e
     by Greater e = absurd (h.none_before b (cells_total.antisymm b a ∙ ap ordering_reverse e) k.lives)
 
-not_both : (a b : Cell) → cell_cmp a b ≡ Less → cell_cmp b a ≡ Less → ⊥
+pub not_both : (a b : Cell) → cell_cmp a b ≡ Less → cell_cmp b a ≡ Less → ⊥
 not_both a b h k = let e : cell_cmp b a ≡ Greater = cells_total.antisymm b a ∙ ap ordering_reverse h in cc
 
 -- of two islands not each comes before the other

@@ -1,5 +1,5 @@
 -- A search from one cell for all that are joined with it.
-use Rattle.std.specs.Prelude.{◌≡◌, ◌≤◌, ◌<◌, ℕ, ℤ, pos, ◌+ℤ◌, List, ◌++◌, length, slice_get, Some}
+use Rattle.std.specs.Prelude.{◌≡◌, ℤ, ◌+ℤ◌, List, ◌++◌}
 use Rattle.std.specs.List.{AllByRecursion}
 use Rattle.life_cells.specs.Listed.{listed}
 use Rattle.life_cells.specs.declared.cell.Cell.{Cell}

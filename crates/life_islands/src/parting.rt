@@ -6,6 +6,7 @@ ghost use Rattle.life_cells.specs.Cells.{alive, IsRising};
 ghost use Rattle.life_cells.specs.Listed.{listed};
 ghost use Rattle.life_islands.specs.Islands.{AreIslands, IsOneIsland};
 ghost use Rattle.life_islands.specs.Joined.{Lives};
+ghost use Rattle.life_islands.specs.Ranks.{AreRanked, AddsIsland};
 
 use crate::island::Island;
 use crate::rank::Rank;
@@ -51,6 +52,7 @@ pub fn is_one_island(alloc: Global, cells: &CellSet) -> Result<bool, NoMemory>
 fn ranked_islands(alloc: Global, cells: &[Cell]) -> Result<BTreeMap<Rank, CellSet>, NoMemory>
     requires rises { IsRising cells.now }
     requires range { IsInRange (2 ^ 60) (listed cells.now) }
+    ensures { IfOk result (λ ranked. AreRanked (listed cells.now) (listed cells.now) ranked.entries) }
 {
     let mut ranked = BTreeMap::new(alloc);
     let mut seen = IndexSet::new(alloc);
@@ -73,6 +75,9 @@ fn add_island(
     requires rises { IsRising cells.now }
     requires range { IsInRange (2 ^ 60) (listed cells.now) }
     requires lives { Lives (listed cells.now) start }
+    requires ranked { AreRanked (listed cells.now) (listed seen.old.keys) ranked.old.entries }
+    ensures adds { OnOk result (AddsIsland start ranked.old.entries ranked.new.entries) }
+    ensures ranked { OnOk result (AreRanked (listed cells.now) (listed seen.new.keys) ranked.new.entries) }
 {
     let found = joined_with(alloc, cells, start)?;
     add_all(seen, found.as_slice())?;

@@ -49,7 +49,7 @@ impl Rank {
     {
         Rank {
             minus_u: self.minus_u.min(cell.y - cell.x),
-            first: if cell < self.first { cell } else { self.first },
+            first: self.first.min(cell),
         }
     }
 }

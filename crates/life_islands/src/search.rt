@@ -50,12 +50,7 @@ fn add_steps(found: &mut IndexSet<Cell>, cells: &[Cell], here: Cell) -> Result<(
 }
 
 /// Adds the cells of the row dy below to which a step leads from this one.
-fn add_row(
-    found: &mut IndexSet<Cell>,
-    cells: &[Cell],
-    here: Cell,
-    dy: i64,
-) -> Result<(), NoMemory>
+fn add_row(found: &mut IndexSet<Cell>, cells: &[Cell], here: Cell, dy: i64) -> Result<(), NoMemory>
     requires rises { IsRising cells.now }
     requires range { IsInRange (2 ^ 60) (listed cells.now) }
     requires lives { Lives (listed cells.now) here }

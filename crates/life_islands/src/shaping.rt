@@ -19,6 +19,10 @@ pub fn shape_of(_alloc: Global, cells: &CellSet) -> Result<(Shape, Cell), NoMemo
     requires range { IsInRange (2 ^ 60) (alive cells.now) }
     ensures { IfOk result (λ r. IsShapeOf (alive cells.now) (alive r.0) r.1) }
 {
-    let _ = cells;
-    Err(NoMemory)
+    let Some(bounds) = cells.bounds() else {
+        unreachable!()
+    };
+    let corner = Cell::new(bounds.left, bounds.top);
+    let moved = cells.shift(-corner.x, -corner.y)?;
+    Ok((Shape::from_cells(moved), corner))
 }

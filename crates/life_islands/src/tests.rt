@@ -4,25 +4,15 @@ ghost use Rattle.std.specs.Prelude.{IfOk};
 ghost use Rattle.life_cells.specs.Cells.{alive};
 ghost use Rattle.life_cells.specs.Boxes.{IsInRange};
 
-use crate::{Island, is_one_island, islands, shape_of};
+use crate::{is_one_island, islands, shape_of};
+use indexmap::IndexSet;
 use life_cells::{Cell, CellSet, NoMemory};
 use std::alloc::Global;
 use std::test::Fail;
 
-/// The set of the cells at these places, each an x and a y.
-fn set_of(alloc: Global, places: &[(i8, i8)]) -> Result<CellSet, NoMemory>
-    ensures { IfOk result (λ s. IsInRange 128 (alive s)) }
-{
-    let mut cells = Vec::new(alloc);
-    for place in places {
-        cells.push(Cell::new(i64::from(place.0), i64::from(place.1)))?;
-    }
-    CellSet::from_cells(alloc, &cells)
-}
-
-/// The set of blocks with their top left at these places.
+/// The set of blocks with their top lefts at these places, each an x and a y.
 fn blocks(alloc: Global, places: &[(i8, i8)]) -> Result<CellSet, NoMemory>
-    ensures { IfOk result (λ s. IsInRange 128 (alive s)) }
+    ensures { IfOk result (λ s. IsInRange 130 (alive s)) }
 {
     let mut cells = Vec::new(alloc);
     for place in places {
@@ -32,37 +22,48 @@ fn blocks(alloc: Global, places: &[(i8, i8)]) -> Result<CellSet, NoMemory>
         cells.push(Cell::new(x, y + 1))?;
         cells.push(Cell::new(x + 1, y + 1))?;
     }
-    CellSet::from_cells(alloc, &cells)
+    let set = CellSet::from_cells(alloc, &cells)?;
+    Ok(set)
 }
 
 #[test]
 fn near_blocks_are_one_island(rt: HostRuntime) -> Result<(), Fail> {
     let alloc = rt.alloc();
-    let pair = blocks(alloc, &[(0, 0), (3, 0)])?;
-    let island = Island {
-        cells: pair.copy()?,
-        first: Cell::new(0, 0),
-    };
-    assert_eq!(rt; islands(alloc, &pair)?, vec![in alloc; island]?);
-    assert!(rt; is_one_island(alloc, &pair)?);
+    for place in [(3, 0), (-3, 0), (0, 3), (3, -3), (-3, -3)] {
+        let pair = blocks(alloc, &[(0, 0), place])?;
+        let parts = islands(alloc, &pair)?;
+        assert_eq!(rt; parts.len(), 1);
+        assert_eq!(rt; Some(parts[0].first), pair.get(0));
+        assert!(rt; parts[0].cells.equal(&pair));
+        assert!(rt; is_one_island(alloc, &pair)?);
+    }
     Ok(())
 }
 
 #[test]
 fn islands_come_in_order(rt: HostRuntime) -> Result<(), Fail> {
     let alloc = rt.alloc();
-    let cases: [[(i8, i8); 2]; 4] = [
+    // The first comes by a greater x - y, but for the last two: there the first cell decides.
+    for [first, second] in [
         [(4, 0), (0, 0)],
         [(0, 0), (0, 4)],
-        [(-9, -9), (7, 7)],
         [(40, 30), (3, -4)],
-    ];
-    for [first, second] in &cases {
-        let both = blocks(alloc, &[*second, *first])?;
+        [(-9, -9), (7, 7)],
+        [(7, 7), (11, 11)],
+    ] {
+        let both = blocks(alloc, &[second, first])?;
         let parts = islands(alloc, &both)?;
         assert_eq!(rt; parts.len(), 2);
-        assert!(rt; parts[0].cells == blocks(alloc, &[*first])?);
-        assert!(rt; parts[1].cells == blocks(alloc, &[*second])?);
+        assert_eq!(rt;
+            parts[0].first,
+            Cell::new(i64::from(first.0), i64::from(first.1))
+        );
+        assert_eq!(rt;
+            parts[1].first,
+            Cell::new(i64::from(second.0), i64::from(second.1))
+        );
+        assert!(rt; parts[0].cells.equal(&blocks(alloc, &[first])?));
+        assert!(rt; parts[1].cells.equal(&blocks(alloc, &[second])?));
         assert!(rt; !is_one_island(alloc, &both)?);
     }
     Ok(())
@@ -71,8 +72,30 @@ fn islands_come_in_order(rt: HostRuntime) -> Result<(), Fail> {
 #[test]
 fn nothing_has_no_island(rt: HostRuntime) -> Result<(), Fail> {
     let alloc = rt.alloc();
-    let nothing = CellSet::empty(alloc);
+    let nothing = blocks(alloc, &[])?;
     assert!(rt; islands(alloc, &nothing)?.is_empty());
     assert!(rt; !is_one_island(alloc, &nothing)?);
+    Ok(())
+}
+
+#[test]
+fn shapes_have_no_place(rt: HostRuntime) -> Result<(), Fail> {
+    let alloc = rt.alloc();
+    let block = blocks(alloc, &[(0, 0)])?;
+    let mut shapes = IndexSet::new(alloc);
+    for (places, x, y) in [
+        ([(5, -7), (5, -7)], 5, -7),
+        ([(0, 0), (0, 0)], 0, 0),
+        ([(3, 0), (0, 3)], 0, 0),
+        ([(-2, -9), (-5, -6)], -5, -9),
+    ] {
+        let set = blocks(alloc, &places)?;
+        assert!(rt; !set.is_empty());
+        let (shape, corner) = shape_of(alloc, &set)?;
+        assert_eq!(rt; corner, Cell::new(x, y));
+        assert_eq!(rt; shape.cells().equal(&block), places[0] == places[1]);
+        shapes.insert(shape)?;
+    }
+    assert_eq!(rt; shapes.len(), 2);
     Ok(())
 }

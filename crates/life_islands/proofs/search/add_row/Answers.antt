@@ -1,4 +1,4 @@
-use Rattle.std.proofs.Common.{◌∙◌, ap, sym, subst, w64}
+use Rattle.std.proofs.Common.{sym, subst, w64}
 use Rattle.std.specs.Prelude.{FitsSigned, ◌+ℤ◌, pos}
 use Rattle.life_cells.specs.Listed.{listed}
 use Rattle.life_islands.proofs.Rows.{fits_row, is_part, part_rises, adds_part, passed}

@@ -1,6 +1,4 @@
-use Rattle.std.proofs.Common.{◌≡◌, ◌∙◌, ap, arith, sym, length, Some}
-use Rattle.std.specs.List.{slice_get}
-use Rattle.std.proofs.lemmas.Option.{slice_get-get_or}
+use Rattle.std.proofs.Common.{arith}
 use Rattle.life_islands.proofs.Flooding.{search_begins, one_inserted, found_lives, search_more, search_ends, at_place}
 use Rattle.life_islands.proofs.search.joined_with.Goals as goal
 
