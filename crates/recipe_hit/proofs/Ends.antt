@@ -1,8 +1,8 @@
 -- What a salvo leaves, against what it states.
-use Rattle.std.proofs.Common.{◌≡◌, ◌↔◌, IsTrue, Bool, true, false, ℕ, ◌<◌, ◌≤◌, ℤ, length, Some, refl, sym, ap, subst, ◌∙◌, inl, inr, ◌⊎◌}
+use Rattle.std.proofs.Common.{◌≡◌, ◌↔◌, IsTrue, Bool, true, ℕ, ◌<◌, ◌≤◌, length, Some, refl, sym, ap, ◌∙◌, inl, inr}
 use Rattle.std.specs.List.{slice_get}
-use Rattle.life_plane.specs.Plane.{Plane, nothing, union}
-use Rattle.life_plane.specs.Apart.{Apart, Within}
+use Rattle.life_plane.specs.Plane.{Plane}
+use Rattle.life_plane.specs.Apart.{Apart}
 use Rattle.life_cells.specs.declared.cell.Cell.{Cell}
 use Rattle.life_cells.specs.Cells.{cell, Cells, alive, empty, in_order}
 use Rattle.life_cells.specs.Close.{Close}

@@ -1,13 +1,12 @@
 -- A hit from its parts, and that there is none.
-use Rattle.std.proofs.Common.{◌≡◌, ℕ, ◌<◌, ◌≤◌, ℤ, pos, ◌*ℤ◌, ◌⊎◌, inl, inr, refl, sym, ap, subst, ◌∙◌, arith}
+use Rattle.std.proofs.Common.{◌≡◌, ℕ, ◌≤◌, ℤ, pos, ◌*ℤ◌, inl, inr, refl, sym, ap, subst, ◌∙◌, arith}
 use Rattle.std.proofs.lemmas.Bool.{cases_lt}
 use Rattle.life_plane.specs.Plane.{Plane, run, IsStill, union}
 use Rattle.life_plane.specs.Salvo.{salvo_glider}
 use Rattle.life_cells.specs.declared.bounds.Bounds.{Bounds}
-use Rattle.life_cells.specs.Cells.{Cells, alive}
+use Rattle.life_cells.specs.Cells.{alive}
 use Rattle.life_cells.specs.Boxes.{IsLeastBox}
 use Rattle.life_cells.specs.BoxLaws.{one_least_box}
-use Rattle.life_cells.specs.Laws.{same_cells}
 use Rattle.recipe_hit.specs.declared.hit.Hit.{Hit}
 use Rattle.recipe_hit.specs.declared.rest.Rest.{Rest}
 use Rattle.recipe_hit.specs.Strike.{first_quarter, hit_start, ever, ComesToRest, IsNear, IsHit}

@@ -1,16 +1,16 @@
 -- Hits one after the other.
-use Rattle.std.proofs.Common.{◌≡◌, ℕ, zero, suc, ◌+◌, ◌*◌, ◌-◌, ◌^◌, ◌<◌, ◌≤◌, Bool, true, false, ◌||◌, ℤ, pos, neg_ℤ, ◌+ℤ◌, ◌-ℤ◌, ◌*ℤ◌, ◌≤ℤ◌, List, [], ◌∷◌, ◌++◌, length, Some, refl, sym, ap, subst, ◌∙◌, arith}
-use Rattle.std.specs.List.{AllByRecursion, slice_get}
+use Rattle.std.proofs.Common.{◌≡◌, ℕ, zero, suc, ◌+◌, ◌*◌, ◌-◌, ◌^◌, ◌<◌, ◌≤◌, Bool, true, false, ◌||◌, ℤ, pos, neg_ℤ, ◌+ℤ◌, ◌*ℤ◌, ◌≤ℤ◌, List, [], ◌∷◌, ◌++◌, length, Some, refl, sym, ap, subst, ◌∙◌, arith}
+use Rattle.std.specs.List.{slice_get}
 use Rattle.std.proofs.lemmas.Int.{ints}
-use Rattle.life_plane.specs.Plane.{Plane, run, union}
+use Rattle.life_plane.specs.Plane.{Plane}
 use Rattle.life_plane.specs.Salvo.{salvo_glider, salvo_front, salvo_range, salvo_corner}
-use Rattle.life_cells.specs.Cells.{Cells, alive}
-use Rattle.life_cells.specs.Boxes.{IsInRange, IsLeastBox}
+use Rattle.life_cells.specs.Cells.{alive}
+use Rattle.life_cells.specs.Boxes.{IsInRange}
 use Rattle.life_cells.specs.BoxLaws.{range_wider}
 use Rattle.book_parts.specs.Limits.{IsCoordinate}
 use Rattle.book_parts.specs.Proper.{IsProperHand}
 use Rattle.recipe_hit.specs.declared.hit.Hit.{Hit}
-use Rattle.recipe_hit.specs.Strike.{first_quarter, hit_start, ever, IsHit}
+use Rattle.recipe_hit.specs.Strike.{first_quarter, hit_start, IsHit}
 use Rattle.recipe_hit.specs.Sound.{AreHits, what_is_left}
 use Rattle.recipe_hit.specs.Checked.{IsSmall, IsSmallFrame, AreSmallFrames}
 use Rattle.recipe_hit.specs.Joins.{IsBoxInRange}

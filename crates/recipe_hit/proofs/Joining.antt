@@ -1,5 +1,5 @@
 -- The least box about two planes, and the range of a least box.
-use Rattle.std.proofs.Common.{◌≡◌, ℕ, true, false, Bool, ◌||◌, ℤ, pos, neg_ℤ, ◌≤ℤ◌, Option, Some, None, refl, ap, sym, subst, ◌∙◌, arith, ◌⊎◌, inl, inr, IfSome, IfNone}
+use Rattle.std.proofs.Common.{◌≡◌, ℕ, true, false, Bool, ◌||◌, ℤ, pos, neg_ℤ, Option, Some, None, refl, ap, sym, subst, ◌∙◌, arith, inl, inr, IfSome, IfNone}
 use Rattle.std.specs.Int.{int_min, int_max}
 use Rattle.std.proofs.lemmas.Int.{ints, clamps}
 use Rattle.life_cells.specs.declared.bounds.Bounds.{Bounds}

@@ -1,5 +1,5 @@
 -- Lemmas of this crate's own proofs.
-pub mod Tests
+pub mod Comparisons
 pub mod Joining
 pub mod Resting
 pub mod Starting
@@ -12,3 +12,4 @@ pub mod Ends
 pub mod InTurn
 pub mod Missing
 pub mod OneSalvo
+pub mod Made

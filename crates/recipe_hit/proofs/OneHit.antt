@@ -1,13 +1,10 @@
 -- A lane has one hit, and a hit has one refusal.
-use Rattle.std.proofs.Common.{◌≡◌, ◌≢◌, ℕ, ◌≤◌, ℤ, true, false, refl, sym, ap, subst, ◌∙◌}
+use Rattle.std.proofs.Common.{◌≡◌, ◌≢◌, ℤ, true, false, refl, sym, ap, subst, ◌∙◌}
 use Rattle.life_plane.specs.Plane.{Plane, run, nothing}
-use Rattle.life_cells.specs.declared.bounds.Bounds.{Bounds}
-use Rattle.life_cells.specs.Cells.{Cells, alive}
 use Rattle.life_cells.specs.Boxes.{IsLeastBox}
 use Rattle.life_cells.specs.BoxLaws.{one_least_box}
 use Rattle.life_cells.specs.FirstLaws.{one_first}
 use Rattle.life_cells.specs.Laws.{same_cells}
-use Rattle.book_parts.specs.declared.frame.HitFrame.{HitFrame}
 use Rattle.book_parts.specs.Proper.{HasLife}
 use Rattle.recipe_hit.specs.declared.hit.Hit.{Hit}
 use Rattle.recipe_hit.specs.declared.refusal.HitRefusal.{HitRefusal}

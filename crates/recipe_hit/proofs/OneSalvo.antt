@@ -12,7 +12,7 @@ use Rattle.recipe_hit.specs.declared.refusal.SalvoRefusal.{SalvoRefusal}
 use Rattle.recipe_hit.specs.declared.refusal.SalvoRefusal.TheVariants.{Empty, NotSettled, EndDiffers, ProductSplit, HandNear, Memory}
 use Rattle.recipe_hit.specs.Strike.{IsHit}
 use Rattle.recipe_hit.specs.Refusals.{HasNoHit}
-use Rattle.recipe_hit.specs.Sound.{AreHits, what_is_left, left_hand, stated_end, IsSound}
+use Rattle.recipe_hit.specs.Sound.{AreHits, what_is_left, left_hand, IsSound}
 use Rattle.recipe_hit.specs.SalvoRefusals.{IsFirstMissing, HasLast, SalvoIsRefused}
 use Rattle.recipe_hit.proofs.OneHit.{one_hit, lives_not_nothing}
 use Rattle.recipe_hit.proofs.Ends.{near_not_apart}

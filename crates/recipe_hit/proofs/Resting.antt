@@ -1,5 +1,5 @@
 -- A pattern generation by generation, until it is still.
-use Rattle.std.proofs.Common.{◌≡◌, ℕ, zero, suc, ◌+◌, ◌^◌, ◌<◌, ◌≤◌, ◌⊎◌, inl, inr, sym, ap, subst, ◌∙◌, arith}
+use Rattle.std.proofs.Common.{◌≡◌, ℕ, suc, ◌+◌, ◌^◌, ◌<◌, ◌≤◌, inl, inr, sym, ap, subst, ◌∙◌, arith}
 use Rattle.std.proofs.lemmas.Bool.{cases_lt}
 use Rattle.life_plane.specs.Plane.{Plane, run, step, union, IsStill}
 use Rattle.life_cells.specs.declared.bounds.Bounds.{Bounds}
@@ -7,7 +7,7 @@ use Rattle.life_cells.specs.Cells.{Cells, alive}
 use Rattle.life_cells.specs.Boxes.{IsInRange, IsLeastBox}
 use Rattle.life_cells.specs.BoxLaws.{range_run, range_wider}
 use Rattle.life_cells.specs.Laws.{same_cells}
-use Rattle.recipe_hit.specs.Strike.{ComesToRest, ever}
+use Rattle.recipe_hit.specs.Strike.{ever}
 use Rattle.recipe_hit.specs.Rest.{NeverRests}
 
 -- none of the generations before this one is still

@@ -1,8 +1,8 @@
 -- How a hit begins.
-use Rattle.std.proofs.Common.{◌≡◌, ℕ, ◌^◌, true, false, Bool, ◌||◌, ℤ, pos, neg_ℤ, ◌+ℤ◌, ◌-ℤ◌, ◌*ℤ◌, ◌≤ℤ◌, refl, ap, sym, subst, ◌∙◌, arith}
-use Rattle.std.proofs.lemmas.Int.{ints, clamps}
+use Rattle.std.proofs.Common.{◌≡◌, ◌^◌, true, false, Bool, ◌||◌, ℤ, pos, neg_ℤ, ◌*ℤ◌, ◌≤ℤ◌, refl, ap, sym, subst, ◌∙◌, arith}
+use Rattle.std.proofs.lemmas.Int.{ints}
 use Rattle.life_plane.specs.Plane.{Plane, union, same_plane}
-use Rattle.life_plane.specs.Salvo.{salvo_glider, salvo_range, salvo_corner}
+use Rattle.life_plane.specs.Salvo.{salvo_glider, salvo_range}
 use Rattle.life_cells.specs.Boxes.{IsInRange, IsLeastBox}
 use Rattle.life_cells.specs.BoxLaws.{range_union, range_wider}
 use Rattle.life_cells.specs.declared.bounds.Bounds.{Bounds}

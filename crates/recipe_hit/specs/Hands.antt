@@ -1,5 +1,4 @@
 -- A hand: what the gliders of a salvo strike.
-use Rattle.std.specs.Prelude.{◌≡◌}
 use Rattle.life_plane.specs.Plane.{Plane, IsStill}
 use Rattle.book_parts.specs.Proper.{IsProperHand}
 

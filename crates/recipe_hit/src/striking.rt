@@ -76,12 +76,7 @@ fn first_quarter_of(struck: Bounds, lane: i64) -> i64
 }
 
 // What is struck, and the glider of a lane at this quarter.
-fn with_glider(
-    alloc: Global,
-    cells: &CellSet,
-    lane: i64,
-    quarter: i64,
-) -> Result<CellSet, NoMemory>
+fn with_glider(alloc: Global, cells: &CellSet, lane: i64, quarter: i64) -> Result<CellSet, NoMemory>
     requires lane_low { neg_ℤ (pos (2 ^ 41)) ≤ℤ lane }
     requires lane_high { lane ≤ℤ pos (2 ^ 41) }
     requires low { neg_ℤ (pos (2 ^ 42)) ≤ℤ quarter }

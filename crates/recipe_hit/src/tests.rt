@@ -6,9 +6,7 @@ ghost use Rattle.book_parts.specs.Limits.{IsPlaced, IsCoordinate};
 ghost use Rattle.book_parts.specs.Proper.{IsProperHand, IsProperSalvo, IsProperPlace};
 
 use crate::striking::hit;
-use crate::{
-    CheckedSalvo, HandRefusal, Hit, HitRefusal, SalvoRefusal, check_hand, check_salvo,
-};
+use crate::{CheckedSalvo, HandRefusal, Hit, HitRefusal, SalvoRefusal, check_hand, check_salvo};
 use book_parts::{Name, Numbers, RawSalvo};
 use life_cells::{Bounds, Cell, CellSet, NoMemory};
 use life_steps::Steps;
@@ -195,6 +193,16 @@ fn hand_verdict<L: Ledger>(
     }
 }
 
+// What the check of a hand of these cells says.
+fn tested_hand(
+    rt: &impl Abort,
+    alloc: Global,
+    places: &[(i64, i64)],
+) -> Result<Result<CellSet, (CellSet, HandRefusal)>, NoMemory> {
+    let cells = hand_at(rt, alloc, places)?;
+    Ok(hand_verdict::<Brand>(alloc, cells, Blank::new(1)))
+}
+
 // A salvo of these lanes.
 fn salvo_of(
     rt: &impl Abort,
@@ -289,11 +297,18 @@ fn a_hit_keeps_its_frame(rt: HostRuntime) -> Result<(), Fail> {
     let rows = [
         ((0, 0), 1, -7, (-6, 0, 1, 7)),
         ((0, 0), 3, -7, (-4, 0, 1, 7)),
-        ((1000000, -5000), 995001, 4993, (999994, -5000, 1000001, -4993)),
+        (
+            (1000000, -5000),
+            995001,
+            4993,
+            (999994, -5000, 1000001, -4993),
+        ),
     ];
     for (corner, lane, start, bounds) in rows {
         let block = blocks_at(rt.alloc(), &[corner])?;
-        let hit = struck(&rt, rt.alloc(), &block, lane)?.ok().expect(&rt, "a hit");
+        let hit = struck(&rt, rt.alloc(), &block, lane)?
+            .ok()
+            .expect(&rt, "a hit");
         assert_eq!(rt; hit.frame.lane, lane);
         assert_eq!(rt; hit.frame.start, start);
         assert_eq!(rt; sides(hit.frame.bounds), bounds);
@@ -305,7 +320,10 @@ fn a_hit_keeps_its_frame(rt: HostRuntime) -> Result<(), Fail> {
 fn what_does_not_settle_is_no_hit(rt: HostRuntime) -> Result<(), Fail> {
     let line = [(0, 0), (1, 0), (2, 0)];
     let moves = HitRefusal::NotSettled { after: 4096 };
-    assert_eq!(rt; struck(&rt, rt.alloc(), &[], 1)?.err(), Some(HitRefusal::Empty));
+    assert_eq!(rt;
+        struck(&rt, rt.alloc(), &[], 1)?.err(),
+        Some(HitRefusal::Empty)
+    );
     assert_eq!(rt; struck(&rt, rt.alloc(), &line, 20)?.err(), Some(moves));
     let hit = struck(&rt, rt.alloc(), &line, 0)?.ok().expect(&rt, "a hit");
     assert_eq!(rt; (hit.generations, hit.after.len()), (18, 0));
@@ -315,16 +333,21 @@ fn what_does_not_settle_is_no_hit(rt: HostRuntime) -> Result<(), Fail> {
 #[test]
 fn hands_are_still(rt: HostRuntime) -> Result<(), Fail> {
     let block = blocks_at(rt.alloc(), &[(3, 0)])?;
-    let hand = hand_at(&rt, rt.alloc(), &block)?;
-    let cells = hand_verdict::<Brand>(rt.alloc(), hand, Blank::new(1)).ok().expect(&rt, "a hand");
+    let cells = tested_hand(&rt, rt.alloc(), &block)?
+        .ok()
+        .expect(&rt, "a hand");
     assert!(rt; cells.equal(&hand_at(&rt, rt.alloc(), &block)?));
     let line = [(5, 5), (6, 5), (7, 5)];
-    let moving = hand_at(&rt, rt.alloc(), &line)?;
-    let (back, refusal) = hand_verdict::<Brand>(rt.alloc(), moving, Blank::new(1))
+    let (back, refusal) = tested_hand(&rt, rt.alloc(), &line)?
         .err()
         .expect(&rt, "no hand");
     assert!(rt; back.equal(&hand_at(&rt, rt.alloc(), &line)?));
-    assert_eq!(rt; refusal, HandRefusal::NotStill { cell: Cell { y: 4, x: 6 } });
+    assert_eq!(rt;
+        refusal,
+        HandRefusal::NotStill {
+            cell: Cell { y: 4, x: 6 }
+        }
+    );
     Ok(())
 }
 
@@ -342,9 +365,16 @@ fn salvos_are_sound(rt: HostRuntime) -> Result<(), Fail> {
 
 #[test]
 fn a_checked_salvo_keeps_its_hits(rt: HostRuntime) -> Result<(), Fail> {
-    let salvo = checked_at(&rt, rt.alloc(), &[(20, 0), (0, 20)], &[21], &[(20, 0)], None)?
-        .ok()
-        .expect(&rt, "a sound salvo");
+    let salvo = checked_at(
+        &rt,
+        rt.alloc(),
+        &[(20, 0), (0, 20)],
+        &[21],
+        &[(20, 0)],
+        None,
+    )?
+    .ok()
+    .expect(&rt, "a sound salvo");
     let hits = salvo.hits();
     assert_eq!(rt; hits.len(), 1);
     assert_eq!(rt; (hits[0].frame.start, hits[0].generations), (-27, 14));
@@ -352,6 +382,9 @@ fn a_checked_salvo_keeps_its_hits(rt: HostRuntime) -> Result<(), Fail> {
     assert_eq!(rt; salvo.leaves(), None);
     let (shape, place) = salvo.product().expect(&rt, "a product");
     assert_eq!(rt; place, Cell { y: 0, x: 20 });
-    assert_eq!(rt; (shape.cells().len(), shape.cells().bounds().map(sides)), (4, Some((0, 0, 1, 1))));
+    assert_eq!(rt;
+        (shape.cells().len(), shape.cells().bounds().map(sides)),
+        (4, Some((0, 0, 1, 1)))
+    );
     Ok(())
 }

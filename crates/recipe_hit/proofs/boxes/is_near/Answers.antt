@@ -1,7 +1,7 @@
-use Rattle.std.proofs.Common.{◌≡◌, arith, rules, w64, to_z, of_z, pos, ◌+ℤ◌, ◌-ℤ◌, ◌≤ℤ◌, ℤ}
+use Rattle.std.proofs.Common.{◌≡◌, arith, rules, w64, to_z, of_z, pos, ◌+ℤ◌, ◌-ℤ◌, ◌≤ℤ◌}
 use Rattle.std.specs.Prelude.{FitsSigned}
 use Rattle.std.proofs.lemmas.Int.{ints, to_z-of_z}
-use Rattle.recipe_hit.proofs.Tests.{test_decides, beyond_kept}
+use Rattle.recipe_hit.proofs.Comparisons.{test_decides, beyond_kept}
 use Rattle.recipe_hit.proofs.boxes.is_near.Goals as goal
 
 pub returns : goal.returns

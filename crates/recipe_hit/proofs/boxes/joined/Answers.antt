@@ -1,5 +1,5 @@
 use Rattle.std.proofs.Common.{rules}
-use Rattle.recipe_hit.proofs.Tests.{min_is, max_is}
+use Rattle.recipe_hit.proofs.Comparisons.{min_is, max_is}
 use Rattle.recipe_hit.proofs.boxes.joined.Goals as goal
 
 pub returns : goal.returns

@@ -1,4 +1,3 @@
-use Rattle.std.proofs.Common.{arith}
 use Rattle.life_cells.specs.Cells.{alive}
 use Rattle.recipe_hit.proofs.InTurn.{left_last}
 use Rattle.recipe_hit.proofs.in_turn.left_by.Goals as goal

@@ -1,9 +1,9 @@
-use Rattle.std.proofs.Common.{◌∙◌, ap, arith}
+use Rattle.std.proofs.Common.{arith}
 use Rattle.life_cells.specs.Cells.{alive}
 use Rattle.recipe_hit.specs.Strike.{ever}
 use Rattle.recipe_hit.proofs.Joining.{box_of_set}
 use Rattle.recipe_hit.proofs.Resting.{course_range, course_more, not_still_now, moves_more, ever_more}
-use Rattle.recipe_hit.proofs.Tests.{holds_if_true}
+use Rattle.recipe_hit.proofs.Comparisons.{holds_if_true}
 use Rattle.recipe_hit.proofs.rest.come_to_rest.Goals as goal
 
 pub step-requires : goal.step-requires

@@ -1,11 +1,9 @@
-use Rattle.std.proofs.Common.{◌≡◌, ◌∙◌, pos, ◌*ℤ◌, ap, sym, subst, refl, arith, w64, to_z, of_z, IfNone, IfSome}
+use Rattle.std.proofs.Common.{◌≡◌, ◌∙◌, ap, subst, refl, arith, w64, to_z, of_z, IfNone, IfSome}
 use Rattle.std.proofs.lemmas.Int.{ints}
-use Rattle.life_plane.specs.Plane.{union}
-use Rattle.life_plane.specs.Salvo.{salvo_glider}
 use Rattle.life_cells.specs.Cells.{alive}
 use Rattle.life_cells.specs.Laws.{alive-empty}
 use Rattle.recipe_hit.specs.Rest.{NeverRests, IsRestOf}
-use Rattle.recipe_hit.proofs.Tests.{not_if_false}
+use Rattle.recipe_hit.proofs.Comparisons.{not_if_false}
 use Rattle.recipe_hit.specs.Strike.{first_quarter}
 use Rattle.recipe_hit.proofs.Joining.{box_in_range, box_of_set}
 use Rattle.recipe_hit.proofs.Starting.{start_in_range, least_with_glider}
@@ -52,7 +50,7 @@ returns-then-not-is_near-clause-refusal g c =
     let rest = subst (λ found. IfSome found (IsRestOf (alive c.in_ok-before.before))) c.in-Some-2.is c.in_ok-rest.ensures.some in
     refused (alive c.args.cells.now) c.in-Some.struck c.args.lane c.in-Some.ensures.some
     (no_hit_far_off (alive c.args.cells.now) c.in-Some.struck c.args.lane (alive c.in_ok-before.before) c.in-Some-2.rest c.in-Some.ensures.some start rest
-      (not_if_false _ _ c.if-not-is_near.true c.is_near.ensures))
+    (not_if_false _ _ c.if-not-is_near.true c.is_near.ensures))
 
 pub returns-clause-hit : goal.returns-clause-hit
 returns-clause-hit g c =

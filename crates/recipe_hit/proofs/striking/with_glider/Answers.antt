@@ -4,7 +4,7 @@ use Rattle.life_plane.specs.Plane.{union}
 use Rattle.life_plane.specs.Salvo.{salvo_glider}
 use Rattle.life_cells.specs.Cells.{alive}
 use Rattle.life_cells.specs.Laws.{alive-from_list}
-use Rattle.recipe_hit.proofs.Tests.{if_ok}
+use Rattle.recipe_hit.proofs.Comparisons.{if_ok}
 use Rattle.recipe_hit.proofs.striking.with_glider.Goals as goal
 
 pub returns : goal.returns
