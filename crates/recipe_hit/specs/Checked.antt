@@ -1,23 +1,21 @@
--- What is known of a hand and of a salvo that were checked.
-use Rattle.std.specs.Prelude.{◌≡◌, ℕ, ◌^◌, pos, neg_ℤ, ℤ, List, Option}
+-- What is known of a salvo that was checked.
+use Rattle.std.specs.Prelude.{◌≡◌, ℕ, ◌^◌, pos, neg_ℤ, ℤ, List}
+use Rattle.std.specs.declared.option.Option.{Option}
+use Rattle.std.specs.declared.option.Option.TheVariants.{Some, None}
 use Rattle.std.specs.List.{AllByRecursion}
 use Rattle.std.specs.Coded.{Coded, code_by, coded×, coded_ℕ, coded_list}
 use Rattle.std.proofs.Common.{refl}
-use Rattle.life_plane.specs.Plane.{Plane, IsStill}
-use Rattle.life_cells.specs.Cells.{Cells, alive, coded_cells}
+use Rattle.life_cells.specs.Cells.{Cells, alive, empty, coded_cells}
+use Rattle.life_cells.specs.declared.cell.Cell.{Cell}
+use Rattle.life_islands.specs.Shapes.{IsShapeOf}
 use Rattle.book_parts.specs.Limits.{IsFrom}
-use Rattle.book_parts.specs.Proper.{IsProperHand, IsProperSalvo}
+use Rattle.book_parts.specs.Proper.{IsProperSalvo}
 use Rattle.book_parts.specs.declared.salvo.RawSalvo.{RawSalvo}
 use Rattle.book_parts.specs.declared.frame.HitFrame.{HitFrame}
 use Rattle.book_parts.specs.contracts.salvo.RawSalvo as raw_salvo
 use Rattle.book_parts.specs.contracts.frame.HitFrame as frame_row
 use Rattle.recipe_hit.specs.declared.hit.Hit.{Hit}
 use Rattle.recipe_hit.specs.Sound.{IsSound}
-
--- a hand: it lives right of and below its place, within the limits, and is still
-pub record IsHand (s : Plane) : Type 0 where
-  pub proper : IsProperHand s
-  pub still : IsStill s
 
 -- from -2^31 to 2^31
 abbrev pub IsSmall : ℤ → Type 0
@@ -31,6 +29,10 @@ pub record IsSmallFrame (frame : HitFrame) : Type 0 where
   pub top : IsSmall frame.bounds.top
   pub right : IsSmall frame.bounds.right
   pub bottom : IsSmall frame.bounds.bottom
+
+-- all frames of these hits are small
+abbrev pub AreSmallFrames : List Hit → Type 0
+AreSmallFrames hits = AllByRecursion (λ (hit : Hit). IsSmallFrame hit.frame) hits
 
 -- a salvo, with the hand under which it was checked and its hits
 pub record Struck : Type 0 where
@@ -51,4 +53,14 @@ coded_struck = code_by (RawSalvo × (Cells × List Hit)) (coded× raw_salvo.the_
 pub record IsChecked (salvo : Struck) : Type 0 where
   pub proper : IsProperSalvo salvo.raw
   pub sound : IsSound (alive salvo.hand) salvo.raw salvo.hits
-  pub small : AllByRecursion (λ (hit : Hit). IsSmallFrame hit.frame) salvo.hits
+  pub small : AreSmallFrames salvo.hits
+
+-- the shape of a product, and the top left of its box; none where it has no cell
+abbrev pub IsShown : Cells → Option (Cells × Cell) → Type 0
+IsShown product None = product ≡ empty
+IsShown product (Some shown) = IsShapeOf (alive product) (alive shown.0) shown.1
+
+-- what the type of a checked salvo keeps, with the shape of its product
+pub record IsKept (salvo : Struck) (product : Option (Cells × Cell)) : Type 0 where
+  pub checked : IsChecked salvo
+  pub shown : IsShown salvo.raw.product product

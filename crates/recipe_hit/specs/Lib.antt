@@ -1,5 +1,10 @@
 -- Hits at the hand, and what makes a salvo sound.
 pub mod Strike
-pub mod Sound
-pub mod Checked
+pub mod Hands
 pub mod Refusals
+pub mod Rest
+pub mod Joins
+pub mod FurtherBack
+pub mod Sound
+pub mod SalvoRefusals
+pub mod Checked

@@ -5,11 +5,12 @@ ghost use Rattle.life_cells.specs.Cells.{alive, empty};
 ghost use Rattle.life_islands.specs.Shapes.{IsShapeOf};
 ghost use Rattle.book_parts.specs.Proper.{IsProperSalvo};
 ghost use Rattle.recipe_hit.specs.Checked.{IsChecked};
-ghost use Rattle.recipe_hit.specs.Refusals.{SalvoIsRefused};
+ghost use Rattle.recipe_hit.specs.SalvoRefusals.{SalvoIsRefused};
 
 use crate::hand::Hand;
 use crate::hit::Hit;
 use crate::refusal::SalvoRefusal;
+use crate::soundness::test_salvo;
 use book_parts::RawSalvo;
 use life_cells::{Cell, CellSet};
 use life_islands::Shape;
@@ -26,6 +27,18 @@ pub struct CheckedSalvo {
     hand: Snapshot<CellSet>,
     hits: Vec<Hit>,
     product: Option<(Shape, Cell)>,
+}
+
+impl Model for CheckedSalvo {
+    ghost use Rattle.recipe_hit.specs.Checked.{Struck, IsKept, coded_struck};
+
+    ghost Value = { Struck };
+
+    ghost coded = { coded_struck };
+
+    ghost view = { λ s. record { raw = s.raw; hand = s.hand.value; hits = s.hits.items } };
+
+    ghost invariant = { λ s. IsKept (record { raw = s.raw; hand = s.hand.value; hits = s.hits.items }) s.product };
 }
 
 impl CheckedSalvo {
@@ -49,11 +62,51 @@ impl CheckedSalvo {
     pub fn product(&self) -> Option<(&Shape, Cell)>
         ensures some { IfSome result (λ p. IsShapeOf (alive self.now.raw.product) (alive p.0.now) p.1) }
         ensures none { IfNone result (self.now.raw.product ≡ empty) }
+        ensures checked { IsChecked self.now }
+    {
+        match &self.product {
+            Some((shape, place)) => Some((shape, *place)),
+            None => None,
+        }
+    }
 
     /// Where it leaves the hand, if it leaves one. It takes no memory.
     pub fn leaves(&self) -> Option<Cell>
         ensures { result ≡ self.now.raw.hand }
     {
         self.raw.hand
+    }
+}
+
+/// A salvo at a hand, checked by evolving its hits one after the other; it is handed back where it isn't sound. At most 4,097 generations a
+/// lane are counted.
+///
+/// # Errors
+/// What fails first: `Empty` or `NotSettled` exactly at the first lane without a hit; `EndDiffers` exactly where the last hit leaves other
+/// cells than the product and the hand at its place; `ProductSplit` exactly where the product is more than one island; `HandNear` exactly
+/// where the product is within distance 2 of the hand at its place; `Memory` for want of memory.
+pub fn check_salvo<L: Ledger>(
+    alloc: Global,
+    hand: &Hand,
+    salvo: RawSalvo,
+    steps: &mut Steps<L>,
+) -> Result<CheckedSalvo, (RawSalvo, SalvoRefusal)>
+    requires salvo { IsProperSalvo salvo }
+    ensures raw { IfOk result (λ checked. checked.raw ≡ salvo) }
+    ensures hand { IfOk result (λ checked. checked.hand ≡ hand.now) }
+    ensures checked { IfOk result (λ checked. IsChecked checked) }
+    ensures back { IfErr result (λ e. e.0 ≡ salvo) }
+    ensures refusal { IfErr result (λ e. SalvoIsRefused (alive hand.now) salvo e.1) }
+    ensures least { steps.old ≤ steps.new }
+    ensures most { steps.new ≤ steps.old + 4097 * length salvo.lanes }
+{
+    match test_salvo(alloc, hand.cells(), &salvo, steps) {
+        Ok(tested) => Ok(CheckedSalvo {
+            raw: salvo,
+            hand: Snapshot::of(hand.cells()),
+            hits: tested.hits,
+            product: tested.product,
+        }),
+        Err(refusal) => Err((salvo, refusal)),
     }
 }

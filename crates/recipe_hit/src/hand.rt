@@ -3,7 +3,7 @@
 ghost use Rattle.std.specs.Prelude.{◌≡◌, ◌+◌, ◌≤◌, IfOk, IfErr};
 ghost use Rattle.life_cells.specs.Cells.{alive};
 ghost use Rattle.book_parts.specs.Proper.{IsProperHand};
-ghost use Rattle.recipe_hit.specs.Checked.{IsHand};
+ghost use Rattle.recipe_hit.specs.Hands.{IsHand};
 ghost use Rattle.recipe_hit.specs.Refusals.{HandIsRefused};
 
 use crate::refusal::HandRefusal;
@@ -21,7 +21,8 @@ pub struct Hand {
 }
 
 impl Model for Hand {
-    ghost use Rattle.life_cells.specs.Cells.{Cells, coded_cells};
+    ghost use Rattle.life_cells.specs.Cells.{Cells, alive, coded_cells};
+    ghost use Rattle.recipe_hit.specs.Hands.{IsHand};
 
     ghost Value = { Cells };
 

@@ -2,15 +2,22 @@
 //! on its lane; x goes right and y goes down.
 #![tactic(auto)]
 
+mod boxes;
 pub mod checked_salvo;
+mod ending;
 pub mod hand;
 pub mod hit;
+mod in_turn;
 pub mod laws;
+mod near;
 pub mod refusal;
+mod rest;
+mod soundness;
 pub mod striking;
+#[cfg(test)]
+mod tests;
 
 pub use checked_salvo::{CheckedSalvo, check_salvo};
 pub use hand::{Hand, check_hand};
 pub use hit::Hit;
 pub use refusal::{HandRefusal, HitRefusal, SalvoRefusal};
-pub use striking::hit;

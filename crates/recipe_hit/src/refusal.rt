@@ -6,6 +6,7 @@ ghost use Rattle.recipe_hit.specs.declared.refusal.HitRefusal.TheVariants as hit
 ghost use Rattle.recipe_hit.specs.declared.refusal.SalvoRefusal.TheVariants as salvo;
 
 use life_cells::{Cell, NoMemory};
+use std::alloc::AllocFailed;
 
 /// Why there is no hit.
 #[derive(Clone, Copy, Debug, PartialEq, Eq)]
@@ -82,6 +83,14 @@ impl From<NoMemory> for SalvoRefusal {
     ghost from_gives = { λ _ e. e ≡ salvo.Memory };
 
     fn from(_: NoMemory) -> Self {
+        SalvoRefusal::Memory
+    }
+}
+
+impl<T: Drop> From<AllocFailed<T>> for SalvoRefusal {
+    ghost from_gives = { λ _ e. e ≡ salvo.Memory };
+
+    fn from(_: AllocFailed<T>) -> Self {
         SalvoRefusal::Memory
     }
 }

@@ -1,0 +1,50 @@
+-- What a test of two numbers says.
+use Rattle.std.proofs.Common.{◌≡◌, Bool, true, false, ℤ, pos, neg_ℤ, ◌+ℤ◌, ◌≤ℤ◌, ◌^◌, w64, to_z, of_z, ◌∙◌, arith, Result, Ok, Err, IfOk, IsTrue, ◌↔◌, MatchBool, sym, subst, refl}
+use lib.Dec.{T}
+use lib.Signed.{le_z}
+use Rattle.std.specs.Int.{int_min, int_max}
+use Rattle.std.specs.Prelude.{FitsSigned}
+use Rattle.std.proofs.lemmas.Int.{ints, to_z-of_z}
+
+pub le_holds : (a b : ℤ) → le_z a b ≡ true → a ≤ℤ b
+le_holds a b h = record { le = subst T (sym h) tt }
+
+test_from_T : (b : Bool) → T b → b ≡ true
+test_from_T true h = refl
+test_from_T false h = absurd h
+
+pub le_test : (a b : ℤ) → a ≤ℤ b → le_z a b ≡ true
+le_test a b h = test_from_T (le_z a b) h.le
+
+-- what holds where a test succeeds
+pub holds_if_true : (b : Bool) (P Q : Type 0) → b ≡ true → MatchBool b P Q → P
+holds_if_true true P Q is h = h
+holds_if_true false P Q is h = cc
+
+-- more of what an Ok tells
+pub if_ok : {A E : Type 0} (r : Result A E) (P Q : A → Type 0) → ((a : A) → P a → Q a) → IfOk r P → IfOk r Q
+if_ok (Ok a) P Q more h = more a h
+if_ok (Err e) P Q more h = h
+
+-- a test of two numbers as they are kept decides what hangs on their order
+pub test_decides : (a b x y : ℤ) (P : Type 0) → a ≡ x → b ≡ y → (x ≤ℤ y → P) → (P → x ≤ℤ y) → IsTrue (le_z a b) ↔ P
+test_decides a b x y P ea eb from to = (
+  λ test. from (subst (λ z. x ≤ℤ z) eb (subst (λ z. z ≤ℤ b) ea (le_holds a b test))),
+  λ p. le_test a b (subst (λ z. a ≤ℤ z) (sym eb) (subst (λ z. z ≤ℤ y) (sym ea) (to p))),
+)
+
+-- a side of a box of cells, moved out by 8,192, keeps 64 bits
+pub beyond_kept : (z : ℤ) → neg_ℤ (pos (2 ^ 40)) ≤ℤ z → z ≤ℤ pos (2 ^ 40) → to_z w64 (of_z w64 (to_z w64 (of_z w64 z) +ℤ pos 8192)) ≡ z +ℤ pos 8192
+beyond_kept z low high = omega (arith, ints)
+
+-- what a failed test decides against
+pub not_if_false : (b : Bool) (P : Type 0) → b ≡ false → IsTrue b ↔ P → P → ⊥
+not_if_false true P is h p = cc
+not_if_false false P is h p = let yes = h.1 p in cc
+
+-- the lesser and the greater of two numbers of 64 bits, as they are kept
+pub min_is : (a b r : ℤ) → FitsSigned w64 a → FitsSigned w64 b → FitsSigned w64 r → r ≡ int_min (to_z w64 (of_z w64 a)) (to_z w64 (of_z w64 b)) → to_z w64 (of_z w64 r) ≡ int_min a b
+min_is a b r fa fb fr e = to_z-of_z w64 r fr ∙ e ∙ (λ i. int_min (to_z-of_z w64 a fa i) (to_z-of_z w64 b fb i))
+
+pub max_is : (a b r : ℤ) → FitsSigned w64 a → FitsSigned w64 b → FitsSigned w64 r → r ≡ int_max (to_z w64 (of_z w64 a)) (to_z w64 (of_z w64 b)) → to_z w64 (of_z w64 r) ≡ int_max a b
+max_is a b r fa fb fr e = to_z-of_z w64 r fr ∙ e ∙ (λ i. int_max (to_z-of_z w64 a fa i) (to_z-of_z w64 b fb i))

@@ -1,0 +1,15 @@
+-- Lemmas of this crate's own proofs.
+pub mod Comparisons
+pub mod Joining
+pub mod Resting
+pub mod Starting
+pub mod Hitting
+pub mod OneHit
+pub mod Earlier
+pub mod Nearness
+pub mod Places
+pub mod Ends
+pub mod InTurn
+pub mod Missing
+pub mod OneSalvo
+pub mod Made

@@ -1,0 +1,5 @@
+use Rattle.recipe_hit.proofs.OneHit.{no_hand_refusal}
+use Rattle.recipe_hit.proofs.laws.hands_have_no_refusal.Goals as goal
+
+pub returns : goal.returns
+returns c = no_hand_refusal

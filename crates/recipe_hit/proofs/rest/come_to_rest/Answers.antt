@@ -1,0 +1,23 @@
+use Rattle.std.proofs.Common.{arith}
+use Rattle.life_cells.specs.Cells.{alive}
+use Rattle.recipe_hit.specs.Strike.{ever}
+use Rattle.recipe_hit.proofs.Joining.{box_of_set}
+use Rattle.recipe_hit.proofs.Resting.{course_range, course_more, not_still_now, moves_more, ever_more}
+use Rattle.recipe_hit.proofs.Comparisons.{holds_if_true}
+use Rattle.recipe_hit.proofs.rest.come_to_rest.Goals as goal
+
+pub step-requires : goal.step-requires
+step-requires g c = course_range (alive c.args.start.now) _ c.loop-generation.generation c.requires.range (omega arith) c.loop-generation.invariant.now
+
+pub loop-generation-preserved : goal.loop-generation-preserved
+loop-generation-preserved g c =
+    let now = course_more (alive c.args.start.now) (alive c.loop-generation.tiles) _ c.loop-generation.generation c.loop-generation.invariant.now c.in_ok-step.ensures.next in
+    record {
+      now = now;
+      moves = moves_more (alive c.args.start.now) c.loop-generation.generation c.loop-generation.invariant.moves
+          (not_still_now (alive c.args.start.now) c.loop-generation.tiles c.step.new.self c.loop-generation.generation c.loop-generation.invariant.now c.in_ok-step.ensures.next (holds_if_true c.in_ok-step.field-0 _ _ c.if-not-branch.false c.in_ok-step.ensures.changed));
+      bounds = ever_more (alive c.args.start.now) _ _ c.loop-generation.generation now
+          (c.grown-bounds.ensures (ever c.loop-generation.generation (alive c.args.start.now)) _ c.loop-generation.invariant.bounds (box_of_set _ c.step.new.self c.bounds.ensures.some c.bounds.ensures.none));
+      least = let least = c.step.ensures.least in omega arith;
+      most = let most = c.step.ensures.most in omega arith;
+    }

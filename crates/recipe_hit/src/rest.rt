@@ -1,0 +1,58 @@
+//! How a pattern comes to rest.
+
+ghost use Rattle.std.specs.Prelude.{◌+◌, ◌≤◌, ◌^◌, IfOk, IfSome, IfNone};
+ghost use Rattle.life_cells.specs.Cells.{alive};
+ghost use Rattle.life_cells.specs.Boxes.{IsInRange, IsLeastBox};
+ghost use Rattle.recipe_hit.specs.Rest.{IsRestOf, NeverRests};
+
+use crate::boxes::grown;
+use life_cells::{Bounds, CellSet, NoMemory};
+use life_steps::Steps;
+use life_tiles::Tiles;
+use std::alloc::Global;
+use std::sync::ledger::Ledger;
+
+/// The most generations in which a pattern may come to rest.
+pub(crate) const LIMIT: u32 = 4096;
+
+/// A pattern that has come to rest.
+#[derive(Drop)]
+pub(crate) struct Rest {
+    /// What is left.
+    pub after: CellSet,
+    /// The first generation that is still.
+    pub generations: u32,
+    /// The bounds of all cells of the generations up to that one.
+    pub bounds: Bounds,
+}
+
+/// How a pattern comes to rest, whose least box is given; None exactly where none of the generations from 0 to 4,096 is still. Each
+/// generation that is looked at is stepped once, and counted.
+pub(crate) fn come_to_rest<L: Ledger>(
+    alloc: Global,
+    start: &CellSet,
+    bounds: Bounds,
+    steps: &mut Steps<L>,
+) -> Result<Option<Rest>, NoMemory>
+    requires range { IsInRange (2 ^ 44) (alive start.now) }
+    requires bounds { IsLeastBox bounds (alive start.now) }
+    ensures some { IfOk result (λ found. IfSome found (IsRestOf (alive start.now))) }
+    ensures none { IfOk result (λ found. IfNone found (NeverRests (alive start.now))) }
+    ensures least { steps.old ≤ steps.new }
+    ensures most { steps.new ≤ steps.old + 4097 }
+{
+    let mut tiles = Tiles::from_cells(alloc, start)?;
+    let mut bounds = bounds;
+    for generation in 0..=LIMIT {
+        if !tiles.step(steps)? {
+            let after = tiles.to_cells()?;
+            return Ok(Some(Rest {
+                after,
+                generations: generation,
+                bounds,
+            }));
+        }
+        bounds = grown(bounds, tiles.bounds());
+    }
+    Ok(None)
+}
