@@ -1,19 +1,16 @@
 -- Cells of a list, looked at one by one, and the first of a list in order.
 use Rattle.std.proofs.Common.{◌≡◌, ◌≢◌, ℕ, ◌+◌, ◌<◌, ◌≤◌, true, ℤ, List, length, get_or, Option, Some, sym, ap, subst, ◌∙◌, arith, ◌⊎◌, inl, inr}
-use Rattle.std.specs.declared.cmp.Ordering.TheVariants.{Less, Equal, Greater}
-use Rattle.std.specs.Ordering.{ordering_reverse}
+use Rattle.std.specs.declared.cmp.Ordering.TheVariants.{Less}
 use Rattle.std.specs.List.{slice_get}
-use Rattle.std.specs.Cmp.{tied_itself}
-use Rattle.std.proofs.lemmas.Option.{slice_get_within, get_or_from_slice_get, slice_get-get_or}
+use Rattle.std.proofs.lemmas.Option.{slice_get_within, slice_get-get_or}
 use Rattle.std.proofs.lemmas.Bool.{cases_lt}
-use Rattle.std.proofs.lemmas.Map.Keys.{Less-from_sorted}
 use Rattle.life_plane.specs.Plane.{Plane}
 use Rattle.life_cells.specs.declared.cell.Cell.{Cell}
 use Rattle.life_cells.specs.Cells.{cell, cell_cmp, IsRising, Cells, alive, in_order}
 use Rattle.life_cells.specs.Boxes.{IsInRange}
 use Rattle.life_cells.specs.BoxLaws.{IsCellInRange}
 use Rattle.life_cells.specs.Listed.{listed}
-use Rattle.life_cells.specs.Order.{cells_total}
+use Rattle.life_cells.specs.FirstLaws as first
 use Rattle.life_cells.specs.Laws.{alive-in_order, listed_at_place, place_of_listed}
 
 -- what holds of each cell before a place
@@ -57,38 +54,6 @@ live_in_range n s c range live = record { x_low = range.x_low _ _ live; x_high =
 
 -- ---- the first of a list in order
 
-Less≢Equal : Less ≢ Equal
-Less≢Equal h = cc
-
-Less≢Greater : Less ≢ Greater
-Less≢Greater h = cc
-
-pub not_before_itself : (c : Cell) → cell_cmp c c ≢ Less
-not_before_itself c h = Less≢Equal (sym h ∙ tied_itself cells_total c)
-
-not_both_before : (c d : Cell) → cell_cmp c d ≡ Less → cell_cmp d c ≢ Less
-not_both_before c d h k = Less≢Greater (sym h ∙ cells_total.antisymm c d ∙ ap ordering_reverse k)
-
--- a cell at a later place does not come before
-not_later : (cs : List Cell) → IsRising cs → (i k : ℕ) (z d : Cell) → i < length cs → slice_get cs k ≡ Some d → i ≤ k → cell_cmp d (get_or cs i z) ≢ Less
-not_later cs rises i k z d within at_k le before = by_place (cases_lt i k)
-  where
-    at : get_or cs k z ≡ d
-    at = get_or_from_slice_get cs k d z at_k
-
-    by_place : (i < k) ⊎ (k ≤ i) → ⊥
-    by_place (inl lt) = not_both_before d (get_or cs i z) before (subst (λ e. cell_cmp (get_or cs i z) e ≡ Less) at (Less-from_sorted cell_cmp cs i k z rises lt (slice_get_within cs k d at_k)))
-    by_place (inr ge) = not_before_itself (get_or cs i z) (subst (λ e. cell_cmp e (get_or cs i z) ≡ Less) (sym at ∙ ap (λ n. get_or cs n z) (level k i ge le)) before)
-      where
-        level : (k i : ℕ) → k ≤ i → i ≤ k → k ≡ i
-        level k i a b = omega arith
-
 -- where none before a place has a property, no cell with it comes before the one at the place
 pub first_place : (P : Cell → Type 0) (cs : List Cell) (i : ℕ) (z : Cell) → IsRising cs → i < length cs → EachBefore (λ d. P d → ⊥) cs i → (x y : ℤ) → listed cs x y ≡ true → P (cell x y) → cell_cmp (cell x y) (get_or cs i z) ≢ Less
-first_place P cs i z rises within none x y here p before = by_place (place_of_listed cs x y here)
-  where
-    by_place : (k : ℕ) × (slice_get cs k ≡ Some (cell x y)) → ⊥
-    by_place (k, at_k) = elim (cases_lt k i) [
-      | inl lt ↦ none k (cell x y) lt at_k p
-      | inr ge ↦ not_later cs rises i k z (cell x y) within at_k ge before
-    ]
+first_place P cs i z rises within none x y here p = first.first_place cs rises (λ a b. P (cell a b)) i (get_or cs i z) (slice_get-get_or cs i z within) none x y here p

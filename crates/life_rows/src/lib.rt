@@ -8,4 +8,6 @@ mod replay_tests;
 #[cfg(test)]
 mod runs;
 #[cfg(test)]
+mod target_tests;
+#[cfg(test)]
 mod word_tests;
