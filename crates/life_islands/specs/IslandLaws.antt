@@ -139,7 +139,8 @@ same_noted s a b c h k in_a in_b =
     let first : a.first ≡ b.first = one_first_cell (alive b.cells) a.first b.first (subst (IsFirstCell a.first) planes h.first) k.first in
     λ i. record { cells = cells i; first = first i }
 
-abbrev IsAmong : List Island → Island → Type 0
+-- the island is one of these
+abbrev pub IsAmong : List Island → Island → Type 0
 IsAmong [] a = ⊥
 IsAmong (b ∷ islands) a = (b ≡ a) ⊎ IsAmong islands a
 
@@ -151,7 +152,7 @@ noted_among s a c (b ∷ islands) h lives each (inr there) = inr (noted_among s 
 all_among : (s : Plane) (a : Island) (islands : List Island) → IsNoted s a → AreIslands s islands → IsAmong islands a
 all_among s a islands h are = noted_among s a a.first islands h h.first.lives are.each (are.all a.first (h.is.within a.first h.first.lives))
 
-each_among : (P : Island → Type 0) (islands : List Island) (a : Island) → AllByRecursion P islands → IsAmong islands a → P a
+pub each_among : (P : Island → Type 0) (islands : List Island) (a : Island) → AllByRecursion P islands → IsAmong islands a → P a
 each_among P [] a each there = absurd there
 each_among P (b ∷ islands) a each (inl is) = subst P is each.0
 each_among P (b ∷ islands) a each (inr there) = each_among P islands a each.1 there

@@ -3,6 +3,7 @@ pub mod Joined
 pub mod JoinedLaws
 pub mod Islands
 pub mod IslandLaws
+pub mod MovedIslands
 pub mod Order
 pub mod OrderLaws
 pub mod Shapes

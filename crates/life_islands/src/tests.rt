@@ -1,8 +1,10 @@
 //! Sets of blocks, with ample memory.
 
-ghost use Rattle.std.specs.Prelude.{IfOk};
+ghost use Rattle.std.specs.Prelude.{IfOk, OnOk};
+ghost use Rattle.std.specs.List.{All};
 ghost use Rattle.life_cells.specs.Cells.{alive};
 ghost use Rattle.life_cells.specs.Boxes.{IsInRange};
+ghost use Rattle.life_cells.specs.BoxLaws.{IsCellInRange};
 
 use crate::{is_one_island, islands, shape_of};
 use indexmap::IndexSet;
@@ -10,17 +12,26 @@ use life_cells::{Cell, CellSet, NoMemory};
 use std::alloc::Global;
 use std::test::Fail;
 
+/// Adds the cell at x and y.
+fn push_near(cells: &mut Vec<Cell>, x: i8, y: i8) -> Result<(), NoMemory>
+    ensures { OnOk result (All (IsCellInRange 128) cells.old.items → All (IsCellInRange 128) cells.new.items) }
+{
+    cells.push(Cell::new(i64::from(x), i64::from(y)))?;
+    Ok(())
+}
+
 /// The set of blocks with their top lefts at these places, each an x and a y.
 fn blocks(alloc: Global, places: &[(i8, i8)]) -> Result<CellSet, NoMemory>
-    ensures { IfOk result (λ s. IsInRange 130 (alive s)) }
+    ensures { IfOk result (λ s. IsInRange 128 (alive s)) }
 {
     let mut cells = Vec::new(alloc);
     for place in places {
-        let (x, y) = (i64::from(place.0), i64::from(place.1));
-        cells.push(Cell::new(x, y))?;
-        cells.push(Cell::new(x + 1, y))?;
-        cells.push(Cell::new(x, y + 1))?;
-        cells.push(Cell::new(x + 1, y + 1))?;
+        let (x, y) = *place;
+        let (right, below) = (x.wrapping_add(1), y.wrapping_add(1));
+        push_near(&mut cells, x, y)?;
+        push_near(&mut cells, right, y)?;
+        push_near(&mut cells, x, below)?;
+        push_near(&mut cells, right, below)?;
     }
     let set = CellSet::from_cells(alloc, &cells)?;
     Ok(set)
@@ -64,7 +75,16 @@ fn islands_come_in_order(rt: HostRuntime) -> Result<(), Fail> {
         );
         assert!(rt; parts[0].cells.equal(&blocks(alloc, &[first])?));
         assert!(rt; parts[1].cells.equal(&blocks(alloc, &[second])?));
-        assert!(rt; !is_one_island(alloc, &both)?);
+    }
+    Ok(())
+}
+
+#[test]
+fn far_blocks_are_no_island(rt: HostRuntime) -> Result<(), Fail> {
+    let alloc = rt.alloc();
+    for place in [(4, 0), (0, -4), (-4, 3)] {
+        let pair = blocks(alloc, &[(0, 0), place])?;
+        assert!(rt; !is_one_island(alloc, &pair)?);
     }
     Ok(())
 }

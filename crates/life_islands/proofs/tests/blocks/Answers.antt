@@ -8,6 +8,9 @@ use Rattle.life_islands.proofs.tests.blocks.Goals as goal
 
 pub returns : goal.returns
 returns c =
-    let in_range : Cells → Type 0 = λ s. IsInRange 130 (alive s) in
-    let of_list : List Cell → Type 0 = λ cs. All (IsCellInRange 130) cs in
-    subst in_range (sym c.in_ok-set.ensures) (range_from_list 130 _ (subst of_list (sym c.deref.ensures.value) c.loop-place.invariant))
+    let in_range : Cells → Type 0 = λ s. IsInRange 128 (alive s) in
+    let of_list : List Cell → Type 0 = λ cs. All (IsCellInRange 128) cs in
+    subst in_range (sym c.in_ok-set.ensures) (range_from_list 128 _ (subst of_list (sym c.deref.ensures.value) c.loop-place.invariant))
+
+pub loop-place-preserved : goal.loop-place-preserved
+loop-place-preserved c = c.in_ok-push_near-4.ensures (c.in_ok-push_near-3.ensures (c.in_ok-push_near-2.ensures (c.in_ok-push_near.ensures c.loop-place.invariant)))
