@@ -24,6 +24,20 @@ least_in_range n s box h l =
     let a = here.right_of_left in let b = here.left_of_right in let c = here.below_top in let d = here.above_bottom in
     record { columns = omega (arith, ints); rows = omega (arith, ints); left = within.left; right = within.right; top = within.top; bottom = within.bottom }
 
+-- what the least box holds is in its range, and a set with no cell is in each
+pub box_in_range : (n : ℕ) (s : Plane) (box : Bounds) → IsLeastBox box s → neg_ℤ (pos n) ≤ℤ box.left → neg_ℤ (pos n) ≤ℤ box.top → box.right ≤ℤ pos n → box.bottom ≤ℤ pos n → IsInRange n s
+box_in_range n s box l left top right bottom = record {
+  x_low = λ x y live. let h = (l.holds.each x y live).right_of_left in omega (arith, ints);
+  x_high = λ x y live. let h = (l.holds.each x y live).left_of_right in omega (arith, ints);
+  y_low = λ x y live. let h = (l.holds.each x y live).below_top in omega (arith, ints);
+  y_high = λ x y live. let h = (l.holds.each x y live).above_bottom in omega (arith, ints);
+}
+
+pub empty_in_range : (n : ℕ) (s : Cells) → s ≡ empty → IsInRange n (alive s)
+empty_in_range n s e =
+    let dead : (x y : ℤ) → alive s x y ≡ true → ⊥ = λ x y live. true≢false (sym live ∙ ap (λ (p : Plane). p x y) (ap alive e ∙ alive-empty)) in
+    record { x_low = λ x y live. absurd (dead x y live); x_high = λ x y live. absurd (dead x y live); y_low = λ x y live. absurd (dead x y live); y_high = λ x y live. absurd (dead x y live) }
+
 -- a set with no cell is narrow
 pub empty_is_narrow : (s : Cells) → s ≡ empty → IsNarrow (alive s)
 empty_is_narrow s e = inl (ap alive e ∙ alive-empty)

@@ -9,6 +9,7 @@ use life_cells::{Cell, CellSet, NoMemory};
 use life_steps::Steps;
 use std::alloc::Global;
 use std::marker::Brand;
+use std::process::Abort;
 use std::sync::ledger::{Blank, Ledger};
 use std::test::Fail;
 
@@ -26,8 +27,8 @@ fn refusal_of<L: Ledger>(alloc: Global, cells: CellSet, blank: Blank) -> Option<
     }
 }
 
-// Blocks with their top left at these places.
-fn blocks(alloc: Global, places: &[(u16, u16)]) -> Result<CellSet, NoMemory>
+// Blocks with their top left at these places, none of them far out.
+fn blocks(rt: &impl Abort, alloc: Global, places: &[(u16, u16)]) -> Result<CellSet, NoMemory>
     ensures { IfOk result (λ cells. IsInRange (2 ^ 40) (alive cells)) }
 {
     let mut cells = Vec::new(alloc);
@@ -38,11 +39,19 @@ fn blocks(alloc: Global, places: &[(u16, u16)]) -> Result<CellSet, NoMemory>
         cells.push(Cell::new(x, y + 1))?;
         cells.push(Cell::new(x + 1, y + 1))?;
     }
-    CellSet::from_cells(alloc, &cells)
+    let set = CellSet::from_cells(alloc, &cells)?;
+    let Some(bounds) = set.bounds() else {
+        return Ok(set);
+    };
+    assert!(rt; 0 <= bounds.left);
+    assert!(rt; 0 <= bounds.top);
+    assert!(rt; bounds.right <= 100000);
+    assert!(rt; bounds.bottom <= 100000);
+    Ok(set)
 }
 
 // So many columns and rows of blocks, 5 apart.
-fn lattice(alloc: Global, columns: u16, rows: u16) -> Result<CellSet, NoMemory>
+fn lattice(rt: &impl Abort, alloc: Global, columns: u16, rows: u16) -> Result<CellSet, NoMemory>
     ensures { IfOk result (λ cells. IsInRange (2 ^ 40) (alive cells)) }
 {
     let mut places = Vec::new(alloc);
@@ -51,23 +60,23 @@ fn lattice(alloc: Global, columns: u16, rows: u16) -> Result<CellSet, NoMemory>
             places.push((column.saturating_mul(5), row.saturating_mul(5)))?;
         }
     }
-    blocks(alloc, &places)
+    blocks(rt, alloc, &places)
 }
 
 #[test]
 fn targets_are_told_by_their_sides(rt: HostRuntime) -> Result<(), Fail> {
-    let wide = blocks(rt.alloc(), &[(0, 0), (2047, 0)])?;
+    let wide = blocks(&rt, rt.alloc(), &[(0, 0), (2047, 0)])?;
     let refusal = refusal_of::<Brand>(rt.alloc(), wide, Blank::new(1));
     assert_eq!(rt; refusal, Some(TargetError::TooWide { side: 2049 }));
-    let high = blocks(rt.alloc(), &[(0, 0), (0, 2047)])?;
+    let high = blocks(&rt, rt.alloc(), &[(0, 0), (0, 2047)])?;
     let refusal = refusal_of::<Brand>(rt.alloc(), high, Blank::new(1));
     assert_eq!(rt; refusal, Some(TargetError::TooWide { side: 2049 }));
-    let narrow = blocks(rt.alloc(), &[(0, 0), (2046, 2046)])?;
+    let narrow = blocks(&rt, rt.alloc(), &[(0, 0), (2046, 2046)])?;
     assert_eq!(rt;
         refusal_of::<Brand>(rt.alloc(), narrow, Blank::new(1)),
         None
     );
-    let nothing = blocks(rt.alloc(), &[])?;
+    let nothing = blocks(&rt, rt.alloc(), &[])?;
     assert_eq!(rt;
         refusal_of::<Brand>(rt.alloc(), nothing, Blank::new(1)),
         None
@@ -77,7 +86,7 @@ fn targets_are_told_by_their_sides(rt: HostRuntime) -> Result<(), Fail> {
 
 #[test]
 fn targets_are_still(rt: HostRuntime) -> Result<(), Fail> {
-    let near = blocks(rt.alloc(), &[(0, 0), (2, 0)])?;
+    let near = blocks(&rt, rt.alloc(), &[(0, 0), (2, 0)])?;
     let refusal = refusal_of::<Brand>(rt.alloc(), near, Blank::new(1));
     assert_eq!(rt;
         refusal,
@@ -85,7 +94,7 @@ fn targets_are_still(rt: HostRuntime) -> Result<(), Fail> {
             cell: Cell::new(1, -1)
         })
     );
-    let joined = blocks(rt.alloc(), &[(0, 0), (3, 0)])?;
+    let joined = blocks(&rt, rt.alloc(), &[(0, 0), (3, 0)])?;
     assert_eq!(rt;
         refusal_of::<Brand>(rt.alloc(), joined, Blank::new(1)),
         None
@@ -95,10 +104,10 @@ fn targets_are_still(rt: HostRuntime) -> Result<(), Fail> {
 
 #[test]
 fn targets_have_few_islands(rt: HostRuntime) -> Result<(), Fail> {
-    let many = lattice(rt.alloc(), 65, 64)?;
+    let many = lattice(&rt, rt.alloc(), 65, 64)?;
     let refusal = refusal_of::<Brand>(rt.alloc(), many, Blank::new(1));
     assert_eq!(rt; refusal, Some(TargetError::TooManyIslands { count: 4160 }));
-    let few = lattice(rt.alloc(), 64, 64)?;
+    let few = lattice(&rt, rt.alloc(), 64, 64)?;
     assert_eq!(rt; refusal_of::<Brand>(rt.alloc(), few, Blank::new(1)), None);
     Ok(())
 }
