@@ -42,11 +42,7 @@ fn targets_end_as_they_should(rt: HostRuntime) -> Result<(), Fail> {
             4,
             "life: target rule 1\n",
         ),
-        (
-            "#C\nx = 3 y = 3\nbo$2bo$3o!",
-            4,
-            "life: target header 2\n",
-        ),
+        ("#C\nx = 3 y = 3\nbo$2bo$3o!", 4, "life: target header 2\n"),
         (
             "x = 1, y = 1\n2o2045b2o$2o2045b2o!",
             5,
@@ -58,16 +54,8 @@ fn targets_end_as_they_should(rt: HostRuntime) -> Result<(), Fail> {
             "life: not yet 0 0\n",
         ),
         ("x = 1, y = 1\n2o#2o!", 4, "life: target item 15\n"),
-        (
-            "x = 1, y = 1\n1099511627777b!",
-            4,
-            "life: target far 26\n",
-        ),
-        (
-            "x = 1, y = 1\n262145o!",
-            4,
-            "life: target many 262145\n",
-        ),
+        ("x = 1, y = 1\n1099511627777b!", 4, "life: target far 26\n"),
+        ("x = 1, y = 1\n262145o!", 4, "life: target many 262145\n"),
         ("x = 1, y = 1\n0o!", 4, "life: target count 13\n"),
         ("x = 1, y = 1\n2\n#C\n!", 4, "life: target count 13\n"),
     ];
