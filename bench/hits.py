@@ -7,13 +7,13 @@ import os
 import shutil
 import subprocess
 
-ROUNDS = 200
+ROUNDS = 10
 LANES = 17
 PASSES = 100
 
 LISTED = "hit_bench: recipe_hit book_parts life_cells life_steps life_plane\n"
 
-MAIN = r"""//! Strikes a block again and again, so that it can be timed. Without words: a glider of each lane from -8 to 8, two hundred rounds. With
+MAIN = r"""//! Strikes a block again and again, so that it can be timed. Without words: a glider of each lane from -8 to 8, ten rounds. With
 //! a word: a glider that passes the block and never comes to rest, a hundred times.
 #![tactic(auto)]
 
@@ -114,7 +114,7 @@ fn main(rt: HostRuntime) -> ExitCode {
     let hits = if words.count() > 1 {
         passes(&rt, rt.alloc(), &cells, 100)
     } else {
-        rounds(&rt, rt.alloc(), &cells, 200)
+        rounds(&rt, rt.alloc(), &cells, 10)
     };
     ExitCode::from(if hits > 0 { 1 } else { 0 })
 }
@@ -123,7 +123,7 @@ fn main(rt: HostRuntime) -> ExitCode {
 BLOCK = """use Rattle.std.proofs.Common.{arith}
 use Rattle.std.proofs.lemmas.Int.{ints}
 use Rattle.recipe_hit.proofs.Made.{empty_placed}
-use Rattle.hit_bench.proofs.main.block.Goals as goal
+use Rattle.hit_bench.proofs.block.Goals as goal
 
 pub returns-in_default : goal.returns-in_default
 returns-in_default g c = empty_placed c.in_ok-cells.cells c.in_default.ensures.none
@@ -137,7 +137,7 @@ returns g c =
     }
 """
 
-LEDGER = """use Rattle.hit_bench.proofs.main.strikes_at.Given as goal
+LEDGER = """use Rattle.hit_bench.proofs.strikes_at.Given as goal
 
 -- the ledger of the blank
 abbrev pub ghosts-strikes : goal.ghosts-strikes
@@ -159,8 +159,8 @@ def built(top, folder):
         put(os.path.join(copy, "crates.txt"), file.read() + LISTED)
     crate = os.path.join(copy, "crates", "hit_bench")
     put(os.path.join(crate, "src", "main.rt"), MAIN)
-    put(os.path.join(crate, "proofs", "main", "block", "Answers.antt"), BLOCK)
-    put(os.path.join(crate, "proofs", "main", "strikes_at", "Invariants.antt"), LEDGER)
+    put(os.path.join(crate, "proofs", "block", "Answers.antt"), BLOCK)
+    put(os.path.join(crate, "proofs", "strikes_at", "Invariants.antt"), LEDGER)
     log = os.path.join(folder, "log")
     with open(log, "w") as file:
         subprocess.run(["rt", "run"], cwd=crate, stdout=file, stderr=file)
