@@ -1,5 +1,5 @@
 -- What no item of a list's front has, and what no item has.
-use Rattle.std.proofs.Common.{◌≡◌, ℕ, ◌+◌, ◌<◌, ◌≤◌, zero, suc, List, [], ◌∷◌, length, map, get_or, slice_get, Some, refl, sym, ap, ◌∙◌, arith}
+use Rattle.std.proofs.Common.{◌≡◌, ℕ, ◌+◌, ◌<◌, ◌≤◌, zero, suc, List, [], ◌∷◌, ◌++◌, length, map, get_or, slice_get, Some, refl, sym, ap, ◌∙◌, arith}
 use Rattle.std.proofs.lemmas.Option.{slice_get-get_or}
 use borrow.Author.Count.{below_more}
 use Rattle.book_parts.specs.Proper.{IsNoneOf}
@@ -43,3 +43,16 @@ pub place_within : {V : Type 0} (vs : List V) (i : ℕ) (v : V) → slice_get vs
 place_within [] i v e = absurd (cc e)
 place_within (w ∷ vs) zero v e = omega arith
 place_within (w ∷ vs) (suc i) v e = let l = place_within vs i v e in omega arith
+
+-- none of two lists
+pub none_of_both : (names others : List (List ℕ)) (name : List ℕ) → IsNoneOf names name → IsNoneOf others name → IsNoneOf (names ++ others) name
+none_of_both [] others name h k = k
+none_of_both (n ∷ names) others name h k = (h.0, none_of_both names others name h.1 k)
+
+pub none_of_front : (names others : List (List ℕ)) (name : List ℕ) → IsNoneOf (names ++ others) name → IsNoneOf names name
+none_of_front [] others name h = tt
+none_of_front (n ∷ names) others name h = (h.0, none_of_front names others name h.1)
+
+pub none_of_back : (names others : List (List ℕ)) (name : List ℕ) → IsNoneOf (names ++ others) name → IsNoneOf others name
+none_of_back [] others name h = h
+none_of_back (n ∷ names) others name h = none_of_back names others name h.1

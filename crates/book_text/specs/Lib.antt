@@ -1,9 +1,10 @@
 -- What a book's text says.
-pub mod Fields
-pub mod Settings
-pub mod Bodies
 pub mod Names
-pub mod Turns
-pub mod Book
-pub mod ProperSaid
+pub mod Stated
+pub mod Parts
+pub mod Limited
+pub mod Joining
 pub mod Reading
+pub mod Book
+pub mod Drafted
+pub mod ProperSaid

@@ -1,19 +1,18 @@
--- Lines that name a kind, and the names of kinds.
-use Rattle.std.specs.Prelude.{◌≡◌, ℕ, ◌+◌, List, [], ◌∷◌, codes, slice_get}
-use Rattle.std.specs.declared.option.Option.TheVariants.{Some}
+-- The names of kinds, and their numbers.
+use Rattle.std.specs.Prelude.{ℕ, ◌+◌, List, [], ◌∷◌, Option, unwrap_or, if◌then◌else◌}
+use Rattle.std.specs.declared.option.Option.TheVariants.{Some, None}
+use Rattle.std.specs.Str.{bytes_eq}
 use Rattle.book_parts.specs.declared.kind.RawKind.{RawKind}
-use Rattle.book_text.specs.Fields.{fields}
 
--- the kind with this number, counted from 1, has this name
-pub record IsKindNamed (kinds : List RawKind) (number : ℕ) (name : List ℕ) : Type 0 where
-  pub index : ℕ
-  pub kind : RawKind
-  pub number_is : number ≡ index + 1
-  pub is_at : slice_get kinds index ≡ Some kind
-  pub name_is : kind.name ≡ name
+-- the number of the kind with this name, where they are counted from a number on
+abbrev pub number_from : ℕ → List RawKind → List ℕ → Option ℕ
+number_from n [] name = None
+number_from n (kind ∷ kinds) name = if bytes_eq name kind.name then Some n else number_from (n + 1) kinds name
 
--- `start NAME`
-pub record SaysStart (kinds : List RawKind) (line : List ℕ) (start : ℕ) : Type 0 where
-  pub name : List ℕ
-  pub fields_are : fields line ≡ codes "start" ∷ (name ∷ [])
-  pub kind : IsKindNamed kinds start name
+-- the number of the kind with this name, counted from 1
+abbrev pub number_of : List RawKind → List ℕ → Option ℕ
+number_of kinds name = number_from 1 kinds name
+
+-- the number of a kind that is known
+abbrev pub known_number : List RawKind → List ℕ → ℕ
+known_number kinds name = unwrap_or (number_of kinds name) 0

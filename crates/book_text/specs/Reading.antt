@@ -1,114 +1,98 @@
--- How a book is read, a part after the other.
-use Rattle.std.specs.Prelude.{◌≡◌, ℕ, ◌+◌, ◌-◌, ◌<◌, ◌≤◌, ◌^◌, ℤ, pos, ◌≤ℤ◌, List, [], ◌∷◌, ◌++◌, length, codes, map, take, drop, slice_get}
-use Rattle.std.specs.Prelude.{Option}
+-- How lines are read behind what is stated, and where that stops.
+use Rattle.std.specs.Prelude.{◌≡◌, ◌≢◌, ℕ, ◌+◌, ◌⊎◌, List, [], ◌∷◌, ◌++◌, length, codes}
+use Rattle.std.specs.List.{AllByRecursion}
 use Rattle.std.specs.declared.option.Option.TheVariants.{Some, None}
-use Rattle.std.specs.List.{AllZip}
-use Rattle.life_cells.specs.Cells.{Cells, in_order}
-use Rattle.book_parts.specs.Proper.{IsNoneOf}
-use Rattle.book_parts.specs.declared.settings.Settings.{Settings}
-use Rattle.book_parts.specs.declared.settings.Range.{Range}
-use Rattle.book_parts.specs.declared.kind.RawKind.{RawKind}
-use Rattle.book_parts.specs.declared.turn.RawTurn.{RawTurn}
+use Rattle.book_lines.specs.declared.fault.LineFault.{LineFault}
+use Rattle.book_lines.specs.declared.fault.LineFault.TheVariants as fault
+use Rattle.book_lines.specs.declared.statement.Statement.{Statement}
+use Rattle.book_lines.specs.Lines.{words, IsPassedOver}
+use Rattle.book_lines.specs.Statements.{States}
+use Rattle.book_lines.specs.Faults.{IsLineFault}
 use Rattle.book_text.specs.declared.error.BookError.{BookError}
-use Rattle.book_text.specs.declared.error.BookError.TheVariants.{BadLine, Doubled, UnknownKind, LimitOver, Missing, WallReach, NotYet, Memory}
-use Rattle.book_text.specs.Fields.{fields}
-use Rattle.book_text.specs.Bodies.{SaysElbow}
-use Rattle.book_text.specs.Turns.{SaysTurn}
-use Rattle.book_text.specs.Book.{Said, Part, SaysPart, first_parts, AreKinds, AreTurns, IsFirstOther}
+use Rattle.book_text.specs.declared.error.BookError.TheVariants.{BadLine, Doubled, UnknownKind, LimitOver, Missing, WallReach, Memory}
+use Rattle.book_text.specs.declared.error.BookWord.{BookWord}
+use Rattle.book_text.specs.declared.error.BookWord.TheVariants as word
+use Rattle.book_text.specs.Stated.{Stated, nothing_stated, joined}
+use Rattle.book_text.specs.Limited.{IsOver}
+use Rattle.book_text.specs.Joining.{IsNew, KnowsKinds, IsFine}
 
--- a range's numbers are in order within limits, and so is the length of its lists
-pub record IsRange (least greatest shortest longest : ℤ) (range : Range) : Type 0 where
-  pub low : least ≤ℤ range.low
-  pub order : range.low ≤ℤ range.high
-  pub high : range.high ≤ℤ greatest
-  pub some : shortest ≤ℤ pos range.len
-  pub few : pos range.len ≤ℤ longest
+-- these lines are fine, one after the other behind what is stated, and this is stated with them
+abbrev pub AreFine : Stated → List (List ℕ) → Stated → Type 0
+AreFine stated [] after = after ≡ stated
+AreFine stated (line ∷ ls) after =
+    (IsPassedOver line × AreFine stated ls after)
+    ⊎ ((IsPassedOver line → ⊥) × ((s : Statement) × (IsFine stated line s × AreFine (joined stated s) ls after)))
 
--- a line says this part, if there is one, in a book with no kinds
-abbrev pub SaysPlain : List ℕ → Option Part → Type 0
-SaysPlain line None = ⊥
-SaysPlain line (Some part) = SaysPart [] line part
+-- the line with this number is refused so, behind what is stated
+abbrev pub IsRefused : Stated → List ℕ → ℕ → BookError → Type 0
+IsRefused stated line number (BadLine at why) = (at ≡ number) × IsLineFault line why
+IsRefused stated line number (Doubled at) = (at ≡ number) × ((s : Statement) × (States line s × (IsNew stated s → ⊥)))
+IsRefused stated line number (UnknownKind at) = (at ≡ number) × ((s : Statement) × (States line s × (IsNew stated s × (KnowsKinds stated s → ⊥))))
+IsRefused stated line number (LimitOver at over) =
+    (at ≡ number) × ((s : Statement) × (States line s × (IsNew stated s × (KnowsKinds stated s × IsOver stated s (Some over)))))
+IsRefused stated line number other = ⊥
 
--- one of the first ten lines, counted from 0, says its part
-abbrev pub HasForm : ℕ → List ℕ → Said → Type 0
-HasForm i line said = SaysPlain line (slice_get (first_parts said.settings said.hand) i)
+-- `scbook 1`
+abbrev pub IsVersion : List ℕ → Type 0
+IsVersion line = words line ≡ codes "scbook" ∷ (codes "1" ∷ [])
 
--- the first lines, so many of them, say their parts
-abbrev pub AreForms : List (List ℕ) → ℕ → Said → Type 0
-AreForms ls count said = (i : ℕ) → i < count → (line : List ℕ) × ((slice_get ls i ≡ Some line) × HasForm i line said)
+-- the first line that isn't passed over is the version's; these stand behind it, and so many lines up to it
+pub record IsBegun (ls : List (List ℕ)) (number : ℕ) (body : List (List ℕ)) : Type 0 where
+  pub head : List (List ℕ)
+  pub version : List ℕ
+  pub lines_are : ls ≡ head ++ (version ∷ body)
+  pub head_is : AllByRecursion IsPassedOver head
+  pub version_is : IsVersion version
+  pub number_is : number ≡ length head + 1
 
--- the first nine lines say these settings
-abbrev pub AreSettings : List (List ℕ) → Settings → Type 0
-AreSettings ls settings = (said : Said) → said.settings ≡ settings → AreForms ls 9 said
+-- the first line that isn't passed over, with this number, is another than the version's
+pub record IsOtherVersion (ls : List (List ℕ)) (number : ℕ) : Type 0 where
+  pub head : List (List ℕ)
+  pub line : List ℕ
+  pub more : List (List ℕ)
+  pub lines_are : ls ≡ head ++ (line ∷ more)
+  pub head_is : AllByRecursion IsPassedOver head
+  pub line_is : IsPassedOver line → ⊥
+  pub other : IsVersion line → ⊥
+  pub number_is : number ≡ length head + 1
 
--- the first ten lines say these settings and this hand
-abbrev pub AreHead : List (List ℕ) → Settings → Cells → Type 0
-AreHead ls settings hand = AreForms ls 10 (record { settings = settings; hand = hand; kinds = []; start = 0; turns = [] })
+-- there is no version: the first line that isn't passed over is another, or there is none
+abbrev pub HasNoVersion : List (List ℕ) → ℕ → Type 0
+HasNoVersion ls number = IsOtherVersion ls number ⊎ (AllByRecursion IsPassedOver ls × (number ≡ 1))
 
--- the first of the first ten lines, counted from 1, that is missing or says not its part
-pub record IsOther (ls : List (List ℕ)) (line : ℕ) : Type 0 where
-  pub said : Said
-  pub few : length (in_order said.hand) ≤ 2 ^ 18
-  pub before : AreForms ls (line - 1) said
-  pub some : 1 ≤ line
-  pub line_is : line ≤ 10
-  pub here : (any : Said) → AreForms ls line any → ⊥
+-- the first line of these that isn't fine is refused so; so many lines stand before them all
+pub record IsRefusedAmong (before : ℕ) (ls : List (List ℕ)) (e : BookError) : Type 0 where
+  pub front : List (List ℕ)
+  pub line : List ℕ
+  pub more : List (List ℕ)
+  pub lines_are : ls ≡ front ++ (line ∷ more)
+  pub stated : Stated
+  pub fine : AreFine nothing_stated front stated
+  pub line_is : IsPassedOver line → ⊥
+  pub refused : IsRefused stated line ((before + length front) + 1) e
 
--- the reading of the first ten lines stops with this refusal
-abbrev pub StopsIn : List (List ℕ) → BookError → Type 0
-StopsIn ls (NotYet line) = IsOther ls line
-StopsIn ls (WallReach wall reach) = ⊥
-StopsIn ls Memory = Unit {0}
-StopsIn ls (BadLine line why) = ⊥
-StopsIn ls (Doubled line) = ⊥
-StopsIn ls (UnknownKind line) = ⊥
-StopsIn ls (LimitOver line number) = ⊥
-StopsIn ls (Missing word) = ⊥
+-- no line has stated what begins with this word
+abbrev pub IsMissing : Stated → BookWord → Type 0
+IsMissing stated word.Approach = stated.approach ≡ None
+IsMissing stated word.Wall = stated.wall ≡ None
+IsMissing stated word.Reach = stated.reach ≡ None
+IsMissing stated word.Corner = stated.corner ≡ None
+IsMissing stated word.Room = stated.room ≡ None
+IsMissing stated word.Span = stated.span ≡ None
+IsMissing stated word.Lanes = stated.lanes ≡ None
+IsMissing stated word.Delays = stated.delays ≡ None
+IsMissing stated word.Hand = stated.hand ≡ None
+IsMissing stated word.Elbow = stated.kinds ≡ []
+IsMissing stated word.Start = stated.start ≡ None
 
--- the reading of these lines stops with this refusal
-abbrev pub StopsAt : List (List ℕ) → BookError → Type 0
-StopsAt ls (NotYet line) = IsFirstOther ls line
-StopsAt ls (WallReach wall reach) = ⊥
-StopsAt ls Memory = Unit {0}
-StopsAt ls (BadLine line why) = ⊥
-StopsAt ls (Doubled line) = ⊥
-StopsAt ls (UnknownKind line) = ⊥
-StopsAt ls (LimitOver line number) = ⊥
-StopsAt ls (Missing word) = ⊥
+-- the words that every book has
+abbrev pub book_words : List BookWord
+book_words =
+    word.Approach ∷ (word.Wall ∷ (word.Reach ∷ (word.Corner ∷ (word.Room ∷ (word.Span
+    ∷ (word.Lanes ∷ (word.Delays ∷ (word.Hand ∷ (word.Elbow ∷ (word.Start ∷ []))))))))))
 
--- the words `hand BODY`
-abbrev pub SpellsHand : List ℕ → List ℕ → Type 0
-SpellsHand line body = fields line ≡ codes "hand" ∷ (body ∷ [])
-
--- a kind may come behind these, whose bodies and the hand have so many cells
-pub record MayJoin (kinds : List RawKind) (cells : ℕ) (kind : RawKind) : Type 0 where
-  pub few : length kinds < 256
-  pub other : IsNoneOf (map (λ (known : RawKind). known.name) kinds) kind.name
-  pub few_cells : cells + length (in_order kind.cells) ≤ 2 ^ 18
-
--- a turn may come behind these
-pub record MayFollow (turns : List RawTurn) (turn : RawTurn) : Type 0 where
-  pub few : length turns < 1024
-  pub other : IsNoneOf (map (λ (known : RawTurn). known.name) turns) turn.name
-
--- no line is left, or the next one says no kind that may come behind these
-abbrev pub NoKindNext : Cells → List RawKind → List (List ℕ) → Type 0
-NoKindNext hand kinds [] = Unit {0}
-NoKindNext hand kinds (line ∷ rest) = (kind : RawKind) → SaysElbow line kind → AreKinds hand (kinds ++ kind ∷ []) → ⊥
-
--- these are the kinds that the first of these lines say, as many as do
-pub record AreFirstKinds (hand : Cells) (ls : List (List ℕ)) (kinds : List RawKind) : Type 0 where
-  pub within : AreKinds hand kinds
-  pub each : AllZip SaysElbow (take (length kinds) ls) kinds
-  pub next : NoKindNext hand kinds (drop (length kinds) ls)
-
--- no line is left, or the next one says no turn that may come behind these
-abbrev pub NoTurnNext : List RawKind → List RawTurn → List (List ℕ) → Type 0
-NoTurnNext kinds turns [] = Unit {0}
-NoTurnNext kinds turns (line ∷ rest) = (turn : RawTurn) → SaysTurn kinds line turn → AreTurns (turns ++ turn ∷ []) → ⊥
-
--- these are the turns that the first of these lines say, as many as do
-pub record AreFirstTurns (kinds : List RawKind) (ls : List (List ℕ)) (turns : List RawTurn) : Type 0 where
-  pub within : AreTurns turns
-  pub each : AllZip (SaysTurn kinds) (take (length turns) ls) turns
-  pub next : NoTurnNext kinds turns (drop (length turns) ls)
+-- the first of these words that is missing
+abbrev pub IsFirstMissing : Stated → List BookWord → BookWord → Type 0
+IsFirstMissing stated [] missing = ⊥
+IsFirstMissing stated (w ∷ ws) missing =
+    (IsMissing stated w × (missing ≡ w)) ⊎ ((IsMissing stated w → ⊥) × IsFirstMissing stated ws missing)

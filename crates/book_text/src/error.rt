@@ -3,26 +3,10 @@
 ghost use Rattle.std.specs.Prelude.{◌≡◌};
 ghost use Rattle.book_text.specs.declared.error.BookError.TheVariants.{Memory};
 
+use book_lines::LineFault;
 use life_cells::NoMemory;
 use std::alloc::AllocFailed;
 use thiserror::Error;
-
-/// What is wrong in the form of a line.
-#[derive(Clone, Copy, Debug, PartialEq, Eq)]
-pub enum LineFault {
-    /// The first line is no `scbook 1`.
-    Version,
-    /// The line's first word is unknown.
-    Word,
-    /// Items are missing, too many, or not where they belong.
-    Form,
-    /// A number's place holds something else.
-    Number,
-    /// A body is not read.
-    Body,
-    /// A body has no live cell.
-    Empty,
-}
 
 /// A word that every book has.
 #[derive(Clone, Copy, Debug, PartialEq, Eq)]
@@ -95,12 +79,6 @@ pub enum BookError {
         wall: i64,
         /// The reach: the greatest u of a turn's reaction.
         reach: i64,
-    },
-    /// A form that is not read yet.
-    #[error("not yet read from line {line} on")]
-    NotYet {
-        /// The first line that is not of its form in its place, passes a limit, or is missing.
-        line: u64,
     },
     /// No memory.
     #[error("no memory")]

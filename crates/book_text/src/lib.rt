@@ -1,20 +1,18 @@
 //! Recipe books as text. Lines count from 1 and end in a line feed; a carriage return before it is dropped.
 #![tactic(auto)]
 
-mod bodies;
-mod ending;
+mod counting;
+mod draft;
 pub mod error;
-mod fields;
-mod head;
-mod kinds;
+mod joining;
 pub mod laws;
+mod limit;
 mod lines;
-mod name;
-mod number;
+mod outside;
 pub mod read;
-mod settings;
 mod split;
-mod turns;
+mod whole;
 
-pub use error::{BookError, BookWord, LineFault};
+pub use book_lines::LineFault;
+pub use error::{BookError, BookWord};
 pub use read::read_book;

@@ -1,85 +1,188 @@
 //! Reading a book.
 
-ghost use Rattle.std.specs.Prelude.{◌≡◌, IfOk, IfErr};
+ghost use Rattle.std.specs.Prelude.{◌≡◌, ◌+◌, ◌≤◌, ◌<◌, ◌^◌, ℕ, length, IfOk, IfErr, OnOk, IsTrue, ◌↔◌, [], ◌∷◌, codes};
+ghost use Rattle.std.specs.Str.Lines.{lines};
 ghost use Rattle.book_parts.specs.Proper.{IsProperBook};
-ghost use Rattle.book_text.specs.Book.{Said, SayBook, Says, IsBook, StopsWith};
-ghost use Rattle.book_text.specs.Fields.{texts};
-ghost use Rattle.book_text.specs.Reading.{StopsAt};
+ghost use Rattle.book_lines.specs.declared.statement.Statement.{Statement};
+ghost use Rattle.book_lines.specs.Lines.{texts, IsPassedOver};
+ghost use Rattle.book_lines.specs.Statements.{States};
+ghost use Rattle.book_lines.specs.Counts.{HasSmallCounts};
+ghost use Rattle.book_text.specs.Stated.{Stated, nothing_stated, joined};
+ghost use Rattle.book_text.specs.Joining.{IsFine};
+ghost use Rattle.book_text.specs.Reading.{AreFine, IsVersion, IsBegun, HasNoVersion};
+ghost use Rattle.book_text.specs.Book.{Said, Says, IsBook, StopsWith};
+ghost use Rattle.book_text.specs.Drafted.{stated_of, IsKept, IsLineRefusal, IsBodyRefusal, IsTaken, IsOtherLine, IsVersionRefusal};
 
+use crate::draft::Draft;
 use crate::error::BookError;
-use crate::head::{Head, head_of};
-use crate::kinds::{MOST_KINDS, kinds_of, start_of};
-use crate::lines::{first_lines, line_at, lines_from};
-use crate::turns::{MOST_TURNS, turns_of};
-use book_parts::{RawBook, Settings};
+use crate::joining::{is_new, knows_kinds, over};
+use crate::lines::split_line;
+use crate::whole::book_of;
+use book_lines::items::{is_word, two};
+use book_lines::{LineError, LineFault, Statement, is_passed_over, statement_of, words_of};
+use book_parts::RawBook;
+use life_cells::NoMemory;
 use std::alloc::Global;
 
-/// How many lines stand before the kinds.
-const HEAD_LINES: usize = 10;
-
-/// The most lines of a book: those of its head, its kinds, its start and its turns.
-const MOST_LINES: usize = HEAD_LINES + MOST_KINDS + 1 + MOST_TURNS;
-
-/// How far the reach is past the wall, at least.
-const WALL_MARGIN: i64 = 9;
+/// The lines of a book behind the version's, and how many lines stand up to it.
+#[derive(Clone, Copy)]
+struct Begun<'a> {
+    number: u64,
+    body: &'a [u8],
+}
 
 /// The book of a text.
 ///
-/// So far books are read whose lines stand in one order: the version, the nine settings, the kinds, the start, the
-/// turns. Where a text is of another form, the first line is named that is missing, is not of its form in its place,
-/// or passes a limit.
+/// Lines may stand in any order, but a kind is defined in an earlier line than one that names it.
+///
+/// # Errors
+///
+/// The refusal of the first faulty line; where there is none, the first word that is missing, or a reach too near the wall;
+/// or want of memory.
 pub fn read_book(alloc: Global, text: &[u8]) -> Result<RawBook, BookError>
     ensures ok { IfOk result (λ book. (said : Said) × (Says text.now said × IsBook said book)) }
     ensures proper { IfOk result (λ book. IsProperBook book) }
     ensures err { IfErr result (λ e. StopsWith text.now e) }
 {
-    let lines = first_lines(alloc, text, MOST_LINES + 1)?;
-    let book = book_of(alloc, &lines)?;
-    let Settings { wall, reach, .. } = book.settings;
-    if reach < wall + WALL_MARGIN {
-        return Err(BookError::WallReach { wall, reach });
-    }
-    Ok(book)
+    let begun = begin(alloc, text)?;
+    let draft = read_lines(alloc, begun.body, begun.number)?;
+    book_of(draft)
 }
 
-/// The book that these lines say.
-fn book_of(alloc: Global, lines: &[&[u8]]) -> Result<RawBook, BookError>
-    ensures ok { IfOk result (λ book. (said : Said) × (SayBook (texts lines.now) said × IsBook said book)) }
-    ensures err { IfErr result (λ e. StopsAt (texts lines.now) e) }
+/// What stands behind the version's line.
+fn begin(alloc: Global, text: &[u8]) -> Result<Begun<'_>, BookError>
+    ensures ok { IfOk result (λ begun. IsBegun (lines text.now) begun.number (lines begun.body.now)) }
+    ensures small { IfOk result (λ begun. begun.number + length begun.body.now ≤ length text.now) }
+    ensures err { IfErr result (λ e. IsVersionRefusal (lines text.now) e) }
 {
-    let Head { settings, hand } = head_of(alloc, lines)?;
-    let kinds = kinds_of(alloc, lines_from(lines, HEAD_LINES), &hand)?;
-    let place = HEAD_LINES + kinds.len();
-    let start = start_of(line_at(lines, place), &kinds).ok_or(BookError::NotYet {
-        line: place as u64 + 1,
-    })?;
-    let turns = turns_of(alloc, lines_from(lines, place + 1), &kinds)?;
-    let read = place + 1 + turns.len();
-    if read < lines.len() {
-        return Err(BookError::NotYet {
-            line: read as u64 + 1,
+    let mut number = 0;
+    let mut rest = text;
+    while !rest.is_empty() {
+        let (line, more) = split_line(rest);
+        number += 1;
+        if !is_passed_over(line) {
+            require_version(alloc, line, number)?;
+            return Ok(Begun { number, body: more });
+        }
+        rest = more;
+    }
+    let why = LineFault::Version;
+    Err(BookError::BadLine { line: 1, why })
+}
+
+/// That the line with this number is `scbook 1`.
+fn require_version(alloc: Global, line: &[u8], number: u64) -> Result<(), BookError>
+    ensures ok { OnOk result (IsVersion line.now) }
+    ensures err { IfErr result (λ e. IsOtherLine line.now number e) }
+{
+    if is_version(alloc, line)? {
+        return Ok(());
+    }
+    Err(BookError::BadLine {
+        line: number,
+        why: LineFault::Version,
+    })
+}
+
+/// Whether a line is `scbook 1`.
+fn is_version(alloc: Global, line: &[u8]) -> Result<bool, NoMemory>
+    ensures { IfOk result (λ b. IsTrue b ↔ IsVersion line.now) }
+{
+    let words = words_of(alloc, line)?;
+    Ok(are_version(&words))
+}
+
+/// Whether these words are `scbook` and `1`.
+fn are_version(words: &[&[u8]]) -> bool
+    ensures { IsTrue result ↔ (texts words.now ≡ codes "scbook" ∷ (codes "1" ∷ [])) }
+{
+    match two(words) {
+        Some((word, number)) => is_word(word, "scbook") && is_word(number, "1"),
+        None => false,
+    }
+}
+
+/// What these lines state, one after the other; so many lines stand before them.
+fn read_lines(alloc: Global, body: &[u8], before: u64) -> Result<Draft, BookError>
+    requires { before + length body.now < 2 ^ 64 }
+    ensures fine { IfOk result (λ draft. AreFine nothing_stated (lines body.now) (stated_of draft)) }
+    ensures kept { IfOk result (λ draft. IsKept draft) }
+    ensures err { IfErr result (λ e. IsBodyRefusal before (lines body.now) e) }
+{
+    let mut draft = Draft::new(alloc);
+    let mut number = before;
+    let mut rest = body;
+    while !rest.is_empty() {
+        let (line, more) = split_line(rest);
+        number += 1;
+        take_line(alloc, &mut draft, line, number)?;
+        rest = more;
+    }
+    Ok(draft)
+}
+
+/// Passes over the line with this number, or adds what it states.
+fn take_line(alloc: Global, draft: &mut Draft, line: &[u8], number: u64) -> Result<(), BookError>
+    requires { IsKept draft.old }
+    ensures taken { OnOk result (IsTaken (stated_of draft.old) line.now (stated_of draft.new)) }
+    ensures kept { OnOk result (IsKept draft.new) }
+    ensures err { IfErr result (λ e. IsLineRefusal (stated_of draft.old) line.now number e) }
+    ensures other { IfErr result (λ e. IsPassedOver line.now → ⊥) }
+{
+    if is_passed_over(line) {
+        return Ok(());
+    }
+    read_line(alloc, draft, line, number)
+}
+
+/// Adds what the line with this number states.
+fn read_line(alloc: Global, draft: &mut Draft, line: &[u8], number: u64) -> Result<(), BookError>
+    requires { IsKept draft.old }
+    ensures fine { OnOk result ((s : Statement) × (IsFine (stated_of draft.old) line.now s × (stated_of draft.new ≡ joined (stated_of draft.old) s))) }
+    ensures kept { OnOk result (IsKept draft.new) }
+    ensures err { IfErr result (λ e. IsLineRefusal (stated_of draft.old) line.now number e) }
+{
+    let statement = stated(alloc, line, number)?;
+    if !is_new(draft, &statement) {
+        return Err(BookError::Doubled { line: number });
+    }
+    if !knows_kinds(draft, &statement) {
+        return Err(BookError::UnknownKind { line: number });
+    }
+    if let Some(over) = over(draft, &statement) {
+        return Err(BookError::LimitOver {
+            line: number,
+            number: over,
         });
     }
-    Ok(RawBook {
-        settings,
-        hand,
-        kinds,
-        start,
-        turns,
-        salvos: Vec::new(alloc),
-    })
+    draft.add(alloc, statement)?;
+    Ok(())
+}
+
+/// What the line with this number states.
+fn stated(alloc: Global, line: &[u8], number: u64) -> Result<Statement, BookError>
+    ensures ok { IfOk result (λ s. States line.now s) }
+    ensures few { IfOk result (λ s. HasSmallCounts s) }
+    ensures err { (stated : Stated) → IfErr result (λ e. IsLineRefusal stated line.now number e) }
+{
+    match statement_of(alloc, line) {
+        Ok(statement) => Ok(statement),
+        Err(LineError::Fault(why)) => Err(BookError::BadLine { line: number, why }),
+        Err(LineError::Memory) => Err(BookError::Memory),
+    }
 }
 
 #[cfg(test)]
 mod tests {
     use super::*;
-    use book_parts::{RawKind, RawTurn, TurnEnd};
+    use crate::error::BookWord;
+    use book_parts::TurnEnd;
     use life_cells::Cell;
     use std::alloc::AllocError;
     use std::test::Fail;
 
-    /// A book with three kinds and an end of each form.
-    const BOOK: [&str; 18] = [
+    /// A book in the canonical order.
+    const BOOK: [&str; 13] = [
         "scbook 1",
         "approach 40",
         "wall 4",
@@ -90,139 +193,179 @@ mod tests {
         "lanes 0 3 1",
         "delays 50 52 2",
         "hand 2o$2o!",
-        "elbow one 0 0 2o$2o!",
-        "elbow two 0 0 2o$2o63$64b2o$64b2o!",
-        "elbow three -3 7 2o$2o63$64b2o$64b2o63$128b2o$128b2o!",
-        "start three",
-        "turn first three move two -64 30 : 0",
-        "turn second two move one 64 030 : -0 90",
-        "turn third one emit two 0 129 6 -40 : 0 90 65536",
-        "turn last one close 30 : 0",
+        "elbow block 0 0 2o$2o!",
+        "start block",
+        "turn fold block close 30 : 0",
     ];
 
-    /// How many lines a book has at least.
-    const SHORTEST: usize = 14;
-
-    /// The first lines of the book, so many of them, with a line end behind each.
-    fn first_of_book(alloc: Global, lines: usize, end: &str) -> Result<String, AllocError> {
-        let mut text = String::new(alloc);
-        for line in BOOK.iter().take(lines) {
-            text.push_str(line)?;
-            text.push_str(end)?;
-        }
-        Ok(text)
-    }
-
-    /// The book with one line, counted from 1, replaced.
+    /// The lines of the book, one of them replaced, with a line end behind each.
     fn book_with(alloc: Global, number: usize, other: &str) -> Result<String, AllocError> {
         let mut text = String::new(alloc);
-        for (i, own) in BOOK.iter().enumerate() {
-            text.push_str(if i + 1 == number { other } else { own })?;
-            text.push_str("\n")?;
+        for (index, line) in BOOK.iter().enumerate() {
+            text.push_str(if index + 1 == number { other } else { line })?;
+            text.push('\n')?;
         }
         Ok(text)
     }
 
-    fn has_kinds(kinds: &[RawKind]) -> bool {
-        let [one, two, three] = kinds else {
-            return false;
-        };
-        let names = one.name.text() == "one" && two.name.text() == "two";
-        let first = three.cells.cells().first() == Some(&Cell::new(-3, 7));
-        names && one.cells.len() == 4 && first && three.cells.len() == 12
-    }
-
-    fn is_turn(turn: &RawTurn, name: &str, kind: usize, end: TurnEnd, delays: &[i64]) -> bool {
-        let entry = turn.name.text() == name && turn.kind == kind && turn.end == end;
-        entry && turn.delays.items() == delays
-    }
-
-    fn has_turns(turns: &[RawTurn]) -> bool {
-        let [first, second, third, last] = turns else {
-            return false;
-        };
-        let back = TurnEnd::Move {
-            kind: 2,
-            shift: -64,
-        };
-        let on = TurnEnd::Move { kind: 1, shift: 64 };
-        let throw = TurnEnd::Emit {
-            kind: 2,
-            shift: 0,
-            lane: 6,
-            j: -40,
-        };
-        let moves = is_turn(first, "first", 3, back, &[0])
-            && is_turn(second, "second", 2, on, &[0, 90]);
-        let emits = is_turn(third, "third", 1, throw, &[0, 90, 65536]) && third.n == 129;
-        moves && emits && is_turn(last, "last", 1, TurnEnd::Close, &[0]) && second.n == 30
+    /// The book with these lines behind it.
+    fn book_and(alloc: Global, more: &str) -> Result<String, AllocError> {
+        let mut text = book_with(alloc, 0, "")?;
+        text.push_str(more)?;
+        Ok(text)
     }
 
     #[test]
-    fn reads_kinds_and_turns(rt: HostRuntime) -> Result<(), Fail> {
-        for end in ["\n", "\r\n"] {
-            let text = first_of_book(rt.alloc(), BOOK.len(), end)?;
-            let book = read_book(rt.alloc(), text.as_bytes())?;
-            assert_eq!(rt; book.settings.corner, Cell::new(60, -60));
-            assert_eq!(rt;
-                (book.settings.lanes.high, book.settings.delays.len),
-                (3, 2)
-            );
-            assert_eq!(rt; (book.hand.len(), book.start, book.salvos.len()), (4, 3, 0));
-            assert!(rt; has_kinds(book.kinds.as_slice()));
-            assert!(rt; has_turns(book.turns.as_slice()));
+    fn reads_the_canonical_order(rt: HostRuntime) -> Result<(), Fail> {
+        let text = book_with(rt.alloc(), 0, "")?;
+        let book = read_book(rt.alloc(), text.as_bytes())?;
+        assert_eq!(rt; book.settings.corner, Cell::new(60, -60));
+        assert_eq!(rt;
+            (book.settings.lanes.high, book.settings.delays.len),
+            (3, 2)
+        );
+        assert_eq!(rt; (book.hand.len(), book.kinds.len(), book.start), (4, 1, 1));
+        assert_eq!(rt; (book.turns.len(), book.salvos.len()), (1, 0));
+        Ok(())
+    }
+
+    #[test]
+    fn reads_lines_in_any_order(rt: HostRuntime) -> Result<(), Fail> {
+        let text =
+            "# a comment\n\t \n \tscbook\t1 \r\n#elbow\nhand 2o$2o!\nelbow two -3 7 2o$2o2$3bo!\r\nspan 0004096\n\
+            salvo one : 3 -4 : none : none\nelbow block -0 0 2o$2o!\nturn fold block close 30 : 0\n\nstart two\ncorner 60 -60\n\
+            turn go two move block -64 30 : -0 90\nsalvo three : 1 : 20 0 2o$2o! : 5 -6\nsalvo four : 2 : 1 1 o! : none\n\
+            salvo five : 2 : none : 7 8\nturn throw block emit two 0 129 6 -40 : 0 90 65536\n\
+            delays 50 52 2\nlanes 0 3 1\nroom 40\nreach\t40\nwall 4\napproach 40";
+        let book = read_book(rt.alloc(), text.as_bytes())?;
+        assert_eq!(rt;
+            (
+                book.start,
+                book.kinds.len(),
+                book.turns.len(),
+                book.salvos.len()
+            ),
+            (1, 2, 3, 4)
+        );
+        assert_eq!(rt; book.settings.span, 4096);
+        match (book.turns.as_slice(), book.salvos.as_slice()) {
+            ([fold, go, throw], [one, three, four, five]) => {
+                assert_eq!(rt; (fold.kind, fold.end, fold.n), (2, TurnEnd::Close, 30));
+                assert_eq!(rt;
+                    (go.kind, go.end),
+                    (
+                        1,
+                        TurnEnd::Move {
+                            kind: 2,
+                            shift: -64
+                        }
+                    )
+                );
+                assert_eq!(rt; go.delays.items(), [0, 90].as_slice());
+                let emit = TurnEnd::Emit {
+                    kind: 1,
+                    shift: 0,
+                    lane: 6,
+                    j: -40,
+                };
+                assert_eq!(rt; (throw.kind, throw.end, throw.n), (2, emit, 129));
+                assert_eq!(rt; one.lanes.items(), [3, -4].as_slice());
+                assert_eq!(rt; (one.product.len(), one.hand), (0, None));
+                assert_eq!(rt; three.product.get(0), Some(Cell::new(20, 0)));
+                assert_eq!(rt;
+                    (three.product.len(), three.hand),
+                    (4, Some(Cell::new(5, -6)))
+                );
+                assert_eq!(rt; (four.product.len(), four.hand), (1, None));
+                assert_eq!(rt; (five.product.len(), five.hand), (0, Some(Cell::new(7, 8))));
+            }
+            _ => assert!(rt; false, "three turns and four salvos"),
         }
         Ok(())
     }
 
     #[test]
-    fn reads_a_book_without_turns(rt: HostRuntime) -> Result<(), Fail> {
-        let mut text = first_of_book(rt.alloc(), SHORTEST - 1, "\n")?;
-        text.push_str("start two")?;
-        let book = read_book(rt.alloc(), text.as_bytes())?;
-        assert_eq!(rt; (book.start, book.turns.len()), (2, 0));
+    fn tells_what_is_missing(rt: HostRuntime) -> Result<(), Fail> {
+        let words = [
+            BookWord::Approach,
+            BookWord::Wall,
+            BookWord::Reach,
+            BookWord::Corner,
+            BookWord::Room,
+            BookWord::Span,
+            BookWord::Lanes,
+            BookWord::Delays,
+            BookWord::Hand,
+            BookWord::Elbow,
+            BookWord::Start,
+        ];
+        let mut text = String::new(rt.alloc());
+        let none = read_book(rt.alloc(), text.as_bytes()).err();
+        let why = LineFault::Version;
+        assert_eq!(rt; none, Some(BookError::BadLine { line: 1, why }));
+        for (line, word) in BOOK.iter().zip(words.iter()) {
+            text.push_str(line)?;
+            text.push('\n')?;
+            let refusal = read_book(rt.alloc(), text.as_bytes()).err();
+            assert_eq!(rt; refusal, Some(BookError::Missing { word: *word }));
+        }
         Ok(())
     }
 
     #[test]
-    fn names_the_first_other_line(rt: HostRuntime) -> Result<(), Fail> {
-        for (line, other) in [
-            (1, "scbook 01"),
-            (2, "approach 42"),
-            (2, "approach 1000000000000000000"),
-            (5, "corner 60  -60"),
-            (6, "room -1"),
-            (8, "lanes 3 2 1"),
-            (9, "delays 19 52 2"),
-            (10, "hand !"),
-            (10, "hand o2000000000000b!"),
-            (11, "start one"),
-            (11, ""),
-            (11, "elbow none 0 0 2o$2o!"),
-            (12, "elbow one 5 5 2o!"),
-            (12, "elbow two 0 0 262137o!"),
-            (12, "elbow two 0 0 2o$2o"),
-            (14, "start four"),
-            (14, "elbow one 9 9 2o!"),
-            (15, "start three"),
-            (15, "salvo fill 3 : none : none"),
-            (15, "# a comment"),
-            (15, "turn first four close 30 : 0"),
-            (15, "turn first three move four -64 30 : 0"),
-            (16, "turn first two move one 64 30 : 0"),
-            (16, "turn second two move one 64 65537 : 0"),
-            (16, "turn second two move one 64 30 0"),
-            (17, "turn third one emit two 0 129 6 8589934593 : 0"),
-            (17, "turn third one emit two 0 129 6 : 0"),
-            (18, "turn last one close 30 :"),
-            (18, "turn last one close 30 : 65537"),
-            (18, "turn last one move 30 : 0"),
+    fn tells_the_fault_of_a_line(rt: HostRuntime) -> Result<(), Fail> {
+        for (line, other, why) in [
+            (1, "scbook 01", LineFault::Version),
+            (1, "scbook", LineFault::Version),
+            (1, " # scbook 1", LineFault::Version),
+            (2, "scbook 1", LineFault::Word),
+            (2, " # approach", LineFault::Word),
+            (2, "Approach 40", LineFault::Word),
+            (2, "approach", LineFault::Form),
+            (2, "approach :", LineFault::Form),
+            (2, "approach 40 40", LineFault::Form),
+            (2, "approach +40", LineFault::Number),
+            (2, "approach 1000000000000000000", LineFault::Number),
+            (2, "approach --4", LineFault::Number),
+            (5, "corner 60", LineFault::Form),
+            (5, "corner x y z", LineFault::Form),
+            (8, "lanes 3 0 x", LineFault::Form),
+            (8, "lanes x 0 1", LineFault::Number),
+            (9, "delays 52 50 2", LineFault::Form),
+            (10, "hand", LineFault::Form),
+            (10, "hand :", LineFault::Form),
+            (10, "hand 2o$2o", LineFault::Body),
+            (10, "hand 0o!", LineFault::Body),
+            (10, "hand x", LineFault::Body),
+            (10, "hand 1099511627777bo!", LineFault::Body),
+            (10, "hand !", LineFault::Empty),
+            (11, "elbow none 0 0 2o$2o!", LineFault::Form),
+            (11, "elbow Block x 0 !", LineFault::Form),
+            (11, "elbow block x 0 !", LineFault::Number),
+            (11, "elbow block 0 0 3b!", LineFault::Empty),
+            (12, "start 1block", LineFault::Form),
+            (13, "turn x nobody close 30 0", LineFault::Form),
+            (13, "turn x nobody close 30 :", LineFault::Form),
+            (13, "turn x nobody close : 0", LineFault::Form),
+            (13, "turn x nobody shut 30 : 0", LineFault::Form),
+            (13, "turn x nobody move y 30 : 0", LineFault::Form),
+            (13, "turn x nobody close x : 0", LineFault::Number),
+            (13, "turn x nobody close 30 : 0 x", LineFault::Number),
+            (13, "salvo x : : none : none", LineFault::Form),
+            (13, "salvo x : 1 : none", LineFault::Form),
+            (13, "salvo x 1 : none : none", LineFault::Form),
+            (13, "salvo x : 1 : x : none", LineFault::Form),
+            (13, "salvo x : y : 1 1 ! : none", LineFault::Number),
+            (13, "salvo x : 1 : 1 1 ! : y 2", LineFault::Number),
+            (13, "salvo x : 1 : 1 1 o : 1 2", LineFault::Body),
+            (13, "salvo x : 1 : 1 1 ! : 1 2", LineFault::Empty),
         ] {
             let text = book_with(rt.alloc(), line, other)?;
             let refusal = read_book(rt.alloc(), text.as_bytes()).err();
+            let line = line as u64;
             assert_eq!(rt;
                 refusal,
-                Some(BookError::NotYet { line: line as u64 }),
+                Some(BookError::BadLine { line, why }),
                 "at {other}"
             );
         }
@@ -230,47 +373,131 @@ mod tests {
     }
 
     #[test]
-    fn holds_the_limit_of_delays(rt: HostRuntime) -> Result<(), Fail> {
-        let mut text = first_of_book(rt.alloc(), SHORTEST, "\n")?;
-        text.push_str("turn last one close 30 :")?;
-        for _ in 0..64 {
-            text.push_str(" 50")?;
+    fn tells_what_comes_again(rt: HostRuntime) -> Result<(), Fail> {
+        for more in [
+            "span 99999999999",
+            "hand 262145o!",
+            "start nobody",
+            "elbow block 99999999999 0 o!",
+            "turn fold nobody close 30 : 0",
+            "salvo fold : 99999999999 : none : none",
+        ] {
+            let text = book_and(rt.alloc(), more)?;
+            let refusal = read_book(rt.alloc(), text.as_bytes()).err();
+            assert_eq!(rt; refusal, Some(BookError::Doubled { line: 14 }), "at {more}");
         }
-        let book = read_book(rt.alloc(), text.as_bytes())?;
-        let delays = match book.turns.as_slice() {
-            [turn] => turn.delays.items().len(),
-            _ => 0,
-        };
-        assert_eq!(rt; delays, 64);
-        text.push_str(" 50")?;
-        let refusal = read_book(rt.alloc(), text.as_bytes()).err();
-        assert_eq!(rt; refusal, Some(BookError::NotYet { line: 15 }));
         Ok(())
     }
 
     #[test]
-    fn holds_the_limit_of_turns(rt: HostRuntime) -> Result<(), Fail> {
-        let mut text = first_of_book(rt.alloc(), SHORTEST, "\n")?;
-        for number in 0..1024 {
-            text.push_str(&format!(in rt.alloc(); "turn t{number} one close 30 : 0\n")?)?;
-        }
-        let book = read_book(rt.alloc(), text.as_bytes())?;
-        assert_eq!(rt; book.turns.len(), 1024);
-        text.push_str("turn more one close 30 : 0\n\n\n")?;
-        let refusal = read_book(rt.alloc(), text.as_bytes()).err();
-        assert_eq!(rt; refusal, Some(BookError::NotYet { line: 1039 }));
-        Ok(())
-    }
-
-    #[test]
-    fn names_the_missing_line(rt: HostRuntime) -> Result<(), Fail> {
-        for lines in 0..SHORTEST {
-            let text = first_of_book(rt.alloc(), lines, "\n")?;
+    fn tells_an_unknown_kind(rt: HostRuntime) -> Result<(), Fail> {
+        for more in [
+            "turn x nobody close 99999 : 0",
+            "turn x block move nobody 0 30 : 0",
+            "turn x block emit nobody 0 30 0 0 : 99999",
+        ] {
+            let text = book_and(rt.alloc(), more)?;
             let refusal = read_book(rt.alloc(), text.as_bytes()).err();
             assert_eq!(rt;
                 refusal,
-                Some(BookError::NotYet {
-                    line: lines as u64 + 1
+                Some(BookError::UnknownKind { line: 14 }),
+                "at {more}"
+            );
+        }
+        let early = book_with(rt.alloc(), 11, "start block\nelbow block 0 0 o!")?;
+        let refusal = read_book(rt.alloc(), early.as_bytes()).err();
+        assert_eq!(rt; refusal, Some(BookError::UnknownKind { line: 11 }));
+        Ok(())
+    }
+
+    #[test]
+    fn tells_the_number_over_a_limit(rt: HostRuntime) -> Result<(), Fail> {
+        for (line, other, number) in [
+            (2, "approach 42", 42),
+            (2, "approach 4100", 4100),
+            (3, "wall 0", 0),
+            (4, "reach 65537", 65537),
+            (5, "corner 60 1073741825", 1073741825),
+            (6, "room 513", 513),
+            (7, "span 134217729", 134217729),
+            (8, "lanes 0 3 65", 65),
+            (9, "delays 19 70000 64", 19),
+            (9, "delays 70000 70001 64", 70001),
+            (9, "delays 20 21 64", 64),
+            (10, "hand 1073741825bo!", 1073741825),
+            (10, "hand 262145o!", 262145),
+            (11, "elbow block 1073741824 -1073741825 2o!", -1073741825),
+            (11, "elbow block 1073741824 0 2o!", 1073741825),
+            (11, "elbow block 0 0 262141o!", 262145),
+            (13, "turn x block close 65537 : 65538", 65537),
+            (13, "turn x block close -1 : 0", -1),
+            (13, "turn x block close 30 : 65537", 65537),
+            (13, "turn x block move block 1073741825 30 : 0", 1073741825),
+            (
+                13,
+                "turn x block emit block 0 30 0 8589934593 : 0",
+                8589934593,
+            ),
+            (13, "salvo x : 0 1073741825 : none : none", 1073741825),
+            (13, "salvo x : 0 : 1073741825 0 262145o! : none", 1073741825),
+            (
+                13,
+                "salvo x : 0 : 0 0 262145o! : 0 -1073741825",
+                -1073741825,
+            ),
+            (13, "salvo x : 0 : 0 0 262145o! : none", 262153),
+        ] {
+            let text = book_with(rt.alloc(), line, other)?;
+            let refusal = read_book(rt.alloc(), text.as_bytes()).err();
+            let line = line as u64;
+            assert_eq!(rt;
+                refusal,
+                Some(BookError::LimitOver { line, number }),
+                "at {other}"
+            );
+        }
+        Ok(())
+    }
+
+    #[test]
+    fn tells_a_near_reach(rt: HostRuntime) -> Result<(), Fail> {
+        let text = book_with(rt.alloc(), 4, "reach 12")?;
+        let refusal = read_book(rt.alloc(), text.as_bytes()).err();
+        assert_eq!(rt; refusal, Some(BookError::WallReach { wall: 4, reach: 12 }));
+        Ok(())
+    }
+
+    /// A line of many numbers is refused by their count; one fewer is read.
+    fn counted(
+        alloc: Global,
+        start: &str,
+        item: &str,
+        end: &str,
+        count: usize,
+    ) -> Result<String, AllocError> {
+        let mut text = book_and(alloc, start)?;
+        for _ in 0..count {
+            text.push_str(item)?;
+        }
+        text.push_str(end)?;
+        Ok(text)
+    }
+
+    #[test]
+    fn holds_the_limits_of_a_line(rt: HostRuntime) -> Result<(), Fail> {
+        for (start, item, end) in [
+            ("turn x block close 30 :", " 50", ""),
+            ("salvo x :", " 50", " : none : none"),
+        ] {
+            let text = counted(rt.alloc(), start, item, end, 64)?;
+            assert!(rt; read_book(rt.alloc(), text.as_bytes()).is_ok());
+            let text = counted(rt.alloc(), start, item, end, 65)?;
+            let refusal = read_book(rt.alloc(), text.as_bytes()).err();
+            assert_eq!(rt;
+                refusal,
+                Some(BookError::LimitOver {
+                    line: 14,
+                    number: 65
                 })
             );
         }
@@ -278,10 +505,27 @@ mod tests {
     }
 
     #[test]
-    fn names_a_near_reach(rt: HostRuntime) -> Result<(), Fail> {
-        let text = book_with(rt.alloc(), 4, "reach 12")?;
-        let refusal = read_book(rt.alloc(), text.as_bytes()).err();
-        assert_eq!(rt; refusal, Some(BookError::WallReach { wall: 4, reach: 12 }));
+    fn holds_the_limits_of_counts(rt: HostRuntime) -> Result<(), Fail> {
+        for (before, behind, own, most) in [
+            ("elbow k", " 0 0 o!\n", 1, 256),
+            ("turn t", " block close 30 : 0\n", 1, 1024),
+            ("salvo s", " : 0 : none : none\n", 0, 4096),
+        ] {
+            let mut text = book_with(rt.alloc(), 0, "")?;
+            for number in own..most {
+                text.push_str(&format!(in rt.alloc(); "{before}{number}{behind}")?)?;
+            }
+            assert!(rt; read_book(rt.alloc(), text.as_bytes()).is_ok());
+            text.push_str(&format!(in rt.alloc(); "{before}x{behind}")?)?;
+            let line = 14 + most - own;
+            let number = most as i64 + 1;
+            let refusal = read_book(rt.alloc(), text.as_bytes()).err();
+            assert_eq!(rt;
+                refusal,
+                Some(BookError::LimitOver { line, number }),
+                "at {before}"
+            );
+        }
         Ok(())
     }
 }

@@ -1,12 +1,13 @@
 //! Bytes cut at a separator.
 
-ghost use Rattle.std.specs.Prelude.{◌≡◌, ◌==◌, ◌∷◌};
+ghost use Rattle.std.specs.Prelude.{◌≡◌, ◌==◌, ◌<◌, ◌∷◌, length, IfSome};
 ghost use Rattle.std.specs.List.{position, slice_split};
-ghost use Rattle.book_text.specs.Fields.{parts_left};
+ghost use Rattle.book_text.specs.Parts.{parts_left};
 
 /// The bytes before the first separator, and those after it, if there is one.
 pub fn split_first(bytes: &[u8], separator: u8) -> (&[u8], Option<&[u8]>)
-    ensures { slice_split (λ b. b == separator) bytes.now ≡ result.0.now ∷ parts_left separator result.1 }
+    ensures parts { slice_split (λ b. b == separator) bytes.now ≡ result.0.now ∷ parts_left separator result.1 }
+    ensures shorter { IfSome result.1 (λ rest. length rest.now < length bytes.now) }
 {
     match place_of(bytes, separator) {
         Some(place) => (&bytes[..place], Some(&bytes[place + 1..])),

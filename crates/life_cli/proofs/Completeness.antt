@@ -2,7 +2,7 @@
 use Rattle.std.specs.Prelude.{◌≡◌, ◌≢◌, ℕ, pos, ◌+ℤ◌, ◌≤ℤ◌, List, [], ◌∷◌, length, codes, IfSome}
 use Rattle.std.specs.declared.option.Option.{Option}
 use Rattle.std.specs.declared.option.Option.TheVariants.{Some, None}
-use Rattle.std.proofs.Common.{sym, ap, subst, ◌∙◌, arith, inl, inr}
+use Rattle.std.proofs.Common.{refl, sym, ap, subst, ◌∙◌, arith, inl, inr}
 use Rattle.std.specs.Str.Parse.{digits_value}
 use Rattle.life_plane.specs.Plane.{Plane, IsStill, nothing}
 use Rattle.life_cells.specs.Cells.{Cells, alive}
@@ -32,13 +32,13 @@ use Rattle.life_cli.specs.declared.status.Which.TheVariants.{Book, Target, Patte
 use Rattle.life_cli.specs.declared.status.Status.{Status}
 use Rattle.life_cli.specs.declared.status.Status.TheVariants.{Done, Words, ReadFault, TooLong, BadRle, BadBookText, BadTarget, BadBook, NoPlan, StreamLong, WriteFault, Memory, NotYet}
 use Rattle.life_cli.specs.Words as command
-use Rattle.life_cli.specs.Words.{IsCompile, IsReplay, IsGenerations, AreRefused, texts_of}
+use Rattle.life_cli.specs.Words.{IsCheck, IsCompile, IsReplay, IsCommand, Takes, IsGenerations, AreRefused, texts_of}
 use Rattle.life_cli.specs.Requests.{Request, Ask}
-use Rattle.life_cli.specs.Requests.Request.{Compile, Replay}
+use Rattle.life_cli.specs.Requests.Request.{Check, Compile, Replay}
 use Rattle.life_cells.specs.Firsts.{IsFirstLive}
-use Rattle.life_cli.specs.Causes.{IsHeld, IsLong, HoldsBook, HoldsPattern, PlanningIsRefused, BuildingIsRefused, CompilingIsRefused, ReplayingIsRefused}
+use Rattle.life_cli.specs.Causes.{IsHeld, IsLong, HoldsBook, HoldsPattern, PlanningIsRefused, BookReadingIsRefused, BuildingIsRefused, CheckIsRefused, CheckingIsRefused, CompilingIsRefused, ReplayingIsRefused}
 use Rattle.life_cli.specs.Run.{IsRefused, HasNoAnswer, Ends}
-use Rattle.life_cli.specs.Complete.{HoldsFine, HoldsEmpty, IsBuildable, HasNoRefusal, IsDue, IsDoneBut}
+use Rattle.life_cli.specs.Complete.{HoldsFine, HoldsEmpty, IsTaken, IsBuildable, HasNoRefusal, IsDue, IsDoneBut}
 
 -- the laws of the parts: a text says one book and means one plane, one that is read has no refusal, and neither has a book that passes its tests
 pub record PartsAreExact : Type 0 where
@@ -58,38 +58,66 @@ pub record PartsAreExact : Type 0 where
 named : (ws : command.Words) (name : List ℕ) (rest : List (List ℕ)) → texts_of ws ≡ name ∷ rest → ws ≡ [] → ⊥
 named ws name rest whole none = let no_texts = ap texts_of none in cc
 
-compile_read : (ws : command.Words) (b t : List ℕ) (e : WordsError) → IsCompile ws b t → AreRefused ws e → ⊥
-compile_read ws b t refusal.NoCommand c r = named ws _ _ c.whole r
-compile_read ws b t (refusal.Dash place) c r = let plain = c.plain in let found = r.1.0 in cc
-compile_read ws b t refusal.UnknownCommand c r = let whole = c.whole in let other = r.1.1.0.whole in let same : r.0 ≡ codes "compile" = cc in r.1.1.1 (inl same)
-compile_read ws b t refusal.WrongCount c r =
-    let whole = c.whole in
-    let other = r.1.1.0.whole in
-    let rest : r.1.0 ≡ b ∷ (t ∷ []) = cc in
-    r.1.1.1.1 (ap length rest)
-compile_read ws b t (refusal.BadNumber place) c r = let whole = c.whole in let other = r.1.1.1.0.whole in let same : codes "compile" ≡ codes "replay" = cc in cc
+-- a command with the number of words that it takes
+check_one : Takes (codes "check") 1
+check_one = inl (refl, refl)
 
-replay_read : (ws : command.Words) (p : List ℕ) (n : ℕ) (e : WordsError) → IsReplay ws p n → AreRefused ws e → ⊥
-replay_read ws p n refusal.NoCommand c r = named ws _ _ c.names.whole r
-replay_read ws p n (refusal.Dash place) c r = let plain = c.names.plain in let found = r.1.0 in cc
-replay_read ws p n refusal.UnknownCommand c r = let whole = c.names.whole in let other = r.1.1.0.whole in let same : r.0 ≡ codes "replay" = cc in r.1.1.1 (inr same)
-replay_read ws p n refusal.WrongCount c r =
-    let whole = c.names.whole in
-    let other = r.1.1.0.whole in
-    let rest : r.1.0 ≡ p ∷ (c.number ∷ []) = cc in
-    r.1.1.1.1 (ap length rest)
-replay_read ws p n (refusal.BadNumber place) c r =
+compile_two : Takes (codes "compile") 2
+compile_two = inr (inl (refl, refl))
+
+replay_two : Takes (codes "replay") 2
+replay_two = inr (inr (refl, refl))
+
+-- words of a command that are as many as it takes are refused at most for a number
+taken_words : (ws : command.Words) (first : List ℕ) (rest : List (List ℕ)) (e : WordsError) → texts_of ws ≡ first ∷ rest → command.first_dash ws ≡ None → Takes first (length rest) → AreRefused ws e →
+    (place : ℕ) × (e ≡ refusal.BadNumber place)
+taken_words ws first rest refusal.NoCommand whole plain takes r = absurd (named ws _ _ whole r)
+taken_words ws first rest (refusal.Dash place) whole plain takes r = let found = r.1.0 in cc
+taken_words ws first rest refusal.UnknownCommand whole plain takes r =
+    let other = r.1.1.0.whole in let same : r.0 ≡ first = cc in
+    absurd (r.1.1.1 (subst IsCommand (sym same) (length rest, takes)))
+taken_words ws first rest refusal.WrongCount whole plain takes r =
+    let other = r.1.1.0.whole in let one : r.0 ≡ first = cc in let two : r.1.0 ≡ rest = cc in
+    absurd (r.1.1.1.1 (subst (λ (f : List ℕ). Takes f (length r.1.0)) (sym one) (subst (λ (t : List (List ℕ)). Takes first (length t)) (sym two) takes)))
+taken_words ws first rest (refusal.BadNumber place) whole plain takes r = (place, refl)
+
+check_number : (ws : command.Words) (b : List ℕ) (place : ℕ) → IsCheck ws b → AreRefused ws (refusal.BadNumber place) → ⊥
+check_number ws b place c r = let whole = c.whole in let other = r.1.1.1.0.whole in let same : codes "check" ≡ codes "replay" = cc in cc
+
+check_read : (ws : command.Words) (b : List ℕ) (e : WordsError) → IsCheck ws b → AreRefused ws e → ⊥
+check_read ws b e c r =
+    let found = taken_words ws (codes "check") (b ∷ []) e c.whole c.plain check_one r in check_number ws b found.0 c (subst (AreRefused ws) found.1 r)
+
+compile_number : (ws : command.Words) (b t : List ℕ) (place : ℕ) → IsCompile ws b t → AreRefused ws (refusal.BadNumber place) → ⊥
+compile_number ws b t place c r = let whole = c.whole in let other = r.1.1.1.0.whole in let same : codes "compile" ≡ codes "replay" = cc in cc
+
+compile_read : (ws : command.Words) (b t : List ℕ) (e : WordsError) → IsCompile ws b t → AreRefused ws e → ⊥
+compile_read ws b t e c r =
+    let found = taken_words ws (codes "compile") (b ∷ (t ∷ [])) e c.whole c.plain compile_two r in compile_number ws b t found.0 c (subst (AreRefused ws) found.1 r)
+
+replay_number : (ws : command.Words) (p : List ℕ) (n place : ℕ) → IsReplay ws p n → AreRefused ws (refusal.BadNumber place) → ⊥
+replay_number ws p n place c r =
     let whole = c.names.whole in
     let other = r.1.1.1.0.whole in
     let same : c.number ≡ r.1.1.0 = cc in
     r.1.1.1.1 n (subst (λ (t : List ℕ). IsGenerations t n) same c.is)
 
+replay_read : (ws : command.Words) (p : List ℕ) (n : ℕ) (e : WordsError) → IsReplay ws p n → AreRefused ws e → ⊥
+replay_read ws p n e c r =
+    let found = taken_words ws (codes "replay") (p ∷ (c.number ∷ [])) e c.names.whole c.names.plain replay_two r in replay_number ws p n found.0 c (subst (AreRefused ws) found.1 r)
+
 words_read : (ws : command.Words) (request : Request) (e : WordsError) → Ask ws request → AreRefused ws e → ⊥
+words_read ws (Check b) e a r = check_read ws b e a r
 words_read ws (Compile b t) e a r = compile_read ws b t e a r
 words_read ws (Replay p n) e a r = replay_read ws p n e a r
 
 -- the words ask for one thing
 one_request : (ws : command.Words) (a b : Request) → Ask ws a → Ask ws b → a ≡ b
+one_request ws (Check b) (Check c) p q = let x = p.whole in let y = q.whole in let one : b ≡ c = cc in ap Check one
+one_request ws (Check b) (Compile c u) p q = let x = p.whole in let y = q.whole in let same : codes "check" ≡ codes "compile" = cc in cc
+one_request ws (Check b) (Replay r n) p q = let x = p.whole in let y = q.names.whole in let same : codes "check" ≡ codes "replay" = cc in cc
+one_request ws (Compile b t) (Check c) p q = let x = p.whole in let y = q.whole in let same : codes "compile" ≡ codes "check" = cc in cc
+one_request ws (Replay r n) (Check c) p q = let x = p.names.whole in let y = q.whole in let same : codes "replay" ≡ codes "check" = cc in cc
 one_request ws (Compile b t) (Compile c u) p q =
     let x = p.whole in let y = q.whole in
     let one : b ≡ c = cc in
@@ -130,10 +158,10 @@ fine_read x texts name text other e h fine k stops is =
 
 planned : PartsAreExact → (said : Said) (sound : List RawTurn) (status : Status) (b : IsBuildable said) → AreTheSound said.settings said.kinds said.turns sound → PlanningIsRefused sound said status → IsDoneBut status
 planned x said sound (NoPlan (NoClosing kind shift)) b are r =
-    let same = x.one_list said.settings said.kinds said.turns b.sound sound b.are are in
+    let same = x.one_list said.settings said.kinds said.turns b.sound sound b.taken.are are in
     absurd (r.1.1 b.list (subst (λ (ts : List RawTurn). plan.ClosesStart ts said.settings.span said.start b.list) same b.closes))
 planned x said sound (StreamLong count) b are r =
-    let same = x.one_list said.settings said.kinds said.turns sound b.sound are b.are in
+    let same = x.one_list said.settings said.kinds said.turns sound b.sound are b.taken.are in
     let long = subst (λ (ts : List RawTurn). plan.IsLong ts said.settings.span said.start count) same r in
     let few = b.few long.list long.picked long.least long.are in
     let many = long.many in
@@ -146,7 +174,7 @@ planned x said sound Done b are r = tt
 planned x said sound other b are r = absurd r
 
 builds : PartsAreExact → (said : Said) (status : Status) → IsBuildable said → BuildingIsRefused said status → IsDoneBut status
-builds x said (BadBook e) b r = absurd (r.0 (x.book_taken said.settings said.hand said.kinds said.start said.turns b.sound b.count e b.valid b.still b.are b.states r.1))
+builds x said (BadBook e) b r = absurd (r.0 (x.book_taken said.settings said.hand said.kinds said.start said.turns b.sound b.taken.count e b.taken.valid b.taken.still b.taken.are b.taken.states r.1))
 builds x said (NoPlan e) b r = planned x said r.0 (NoPlan e) b r.1.0 r.1.1
 builds x said (StreamLong count) b r = planned x said r.0 (StreamLong count) b r.1.0 r.1.1
 builds x said Memory b r = tt
@@ -189,6 +217,23 @@ compiles x texts b t before now Done d r = tt
 compiles x texts b t before now WriteFault d r = tt
 compiles x texts b t before now other d r = absurd r
 
+checks : PartsAreExact → (texts : List HeldText) (b : List ℕ) (before now : ℕ) (status : Status) → HasNoRefusal (Check b) texts → CheckingIsRefused (Some texts) b before now status → IsDoneBut status
+checks x texts b before now ReadFault d r = tt
+checks x texts b before now (TooLong which) d r = absurd (not_long texts b d.1.0.text d.1.0.held r.1)
+checks x texts b before now (BadBookText e) d r =
+    let P : List ℕ → Type 0 = λ text. StopsWith text e in
+    absurd (r.0 (x.book_read d.1.0.text d.0 e d.1.0.reads.says d.1.0.reads.wide (subst P (one_text texts b r.1.0 d.1.0.text r.1.1.0.held d.1.0.held.held) r.1.1.1)))
+checks x texts b before now (BadBook e) d r =
+    let said = d.0 in
+    let taken = d.1.1.1 in
+    let same : r.0 ≡ said = one_said x texts b r.0 said r.1.0 d.1.0 in
+    let refused : CheckIsRefused said (BadBook e) = subst (λ (s : Said). CheckIsRefused s (BadBook e)) same r.1.1 in
+    absurd (refused.0 (x.book_taken said.settings said.hand said.kinds said.start said.turns d.1.1.0 taken.count e taken.valid taken.still taken.are taken.states refused.1))
+checks x texts b before now Memory d r = tt
+checks x texts b before now Done d r = tt
+checks x texts b before now WriteFault d r = tt
+checks x texts b before now other d r = absurd r
+
 replays : PartsAreExact → (texts : List HeldText) (p : List ℕ) (before now : ℕ) (status : Status) → HoldsFine texts p → ReplayingIsRefused (Some texts) p before now status → IsDoneBut status
 replays x texts p before now ReadFault d r = tt
 replays x texts p before now (TooLong which) d r = absurd (not_long texts p d.text d.held r.1)
@@ -201,6 +246,7 @@ replays x texts p before now WriteFault d r = tt
 replays x texts p before now other d r = absurd r
 
 answers : PartsAreExact → (texts : List HeldText) (request : Request) (before now : ℕ) (status : Status) → HasNoRefusal request texts → IsRefused request (Some texts) before now status → IsDoneBut status
+answers x texts (Check b) before now status d r = checks x texts b before now status d r
 answers x texts (Compile b t) before now status d r = compiles x texts b t before now status d r
 answers x texts (Replay p n) before now status d r = replays x texts p before now status d r
 

@@ -2,6 +2,8 @@
 mod WordLists
 mod Held
 mod Notes
+mod Titles
+mod Reports
 mod Generations
 mod Written
 mod Together

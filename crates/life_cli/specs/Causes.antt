@@ -149,6 +149,11 @@ CompilingIsRefused told book_name target_name before now (StreamLong count) =
 CompilingIsRefused told book_name target_name before now Memory = Unit {0}
 CompilingIsRefused told book_name target_name before now other = ⊥
 
+-- no answer to `check` was made, and why
+abbrev pub CheckingIsRefused : Option (List HeldText) → List ℕ → ℕ → ℕ → Status → Type 0
+CheckingIsRefused told name before now (BadBook e) = IfSome told (λ texts. (said : Said) × (HoldsBook texts name said × CheckIsRefused said (BadBook e)))
+CheckingIsRefused told name before now other = BookReadingIsRefused told name before now other
+
 -- no answer to `replay` was made, and why
 abbrev pub ReplayingIsRefused : Option (List HeldText) → List ℕ → ℕ → ℕ → Status → Type 0
 ReplayingIsRefused told name before now status = PatternReadingIsRefused told name Pattern before now status

@@ -15,7 +15,7 @@ use Rattle.stream_time.specs.Numbered.{AreNumbered, count_of}
 use Rattle.stream_time.specs.Built.{most_gliders, ClosesStart, IsClosing}
 use Rattle.life_cli.specs.Words as command
 use Rattle.life_cli.specs.Requests.{Request, Ask}
-use Rattle.life_cli.specs.Requests.Request.{Compile, Replay}
+use Rattle.life_cli.specs.Requests.Request.{Check, Compile, Replay}
 use Rattle.life_cli.specs.Causes.{IsHeld, HoldsBook}
 use Rattle.life_cli.specs.declared.status.Status.{Status}
 use Rattle.life_cli.specs.declared.status.Status.TheVariants.{Done, ReadFault, WriteFault, Memory}
@@ -33,20 +33,25 @@ pub record HoldsEmpty (texts : List HeldText) (name : List ℕ) : Type 0 where
   pub fine : IsFineText text
   pub means : Means text nothing
 
--- a book is one that the checks take, and its sound turns close the start elbow with few gliders
-pub record IsBuildable (said : Said) : Type 0 where
+-- a book is one that the checks take: its kinds are valid, its hand is still, and its sound turns lead the elbow to few states
+pub record IsTaken (said : Said) (sound : List RawTurn) : Type 0 where
   pub valid : AreValid said.settings said.kinds
   pub still : IsStill (alive said.hand)
-  pub sound : List RawTurn
   pub are : AreTheSound said.settings said.kinds said.turns sound
   pub count : ℕ
   pub states : HasStates sound said.start said.settings.span most_states count
+
+-- it is one, and its sound turns close the start elbow with few gliders
+pub record IsBuildable (said : Said) : Type 0 where
+  pub sound : List RawTurn
+  pub taken : IsTaken said sound
   pub list : List ℕ
   pub closes : ClosesStart sound said.settings.span said.start list
   pub few : (least : List ℕ) (picked : List RawTurn) → IsClosing sound said.settings.span said.start least → AreNumbered sound least picked → count_of picked ≤ most_gliders
 
 -- no step of a request refuses
 abbrev pub HasNoRefusal : Request → List HeldText → Type 0
+HasNoRefusal (Check book) texts = (said : Said) × (HoldsBook texts book said × ((sound : List RawTurn) × IsTaken said sound))
 HasNoRefusal (Compile book target) texts = (said : Said) × (HoldsBook texts book said × (HoldsEmpty texts target × IsBuildable said))
 HasNoRefusal (Replay pattern n) texts = HoldsFine texts pattern
 

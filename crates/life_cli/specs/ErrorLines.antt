@@ -8,7 +8,7 @@ use Rattle.life_io.specs.Counts.{Rose}
 use Rattle.life_io.specs.Sinks.{AppendsPrefix}
 use Rattle.life_rle.specs.declared.error.RleError as rle
 use Rattle.book_text.specs.declared.error.BookError as book
-use Rattle.book_text.specs.declared.error.LineFault as fault
+use Rattle.book_lines.specs.declared.fault.LineFault as fault
 use Rattle.book_text.specs.declared.error.BookWord as setting
 use Rattle.life_cli.specs.declared.words.WordsError as words
 use Rattle.life_cli.specs.declared.status.Which.{Which}
@@ -76,7 +76,6 @@ book_text (book.TheVariants.UnknownKind line) = codes "kind " ++ decimal line
 book_text (book.TheVariants.LimitOver line number) = codes "limit " ++ (decimal line ++ (codes " " ++ signed_decimal number))
 book_text (book.TheVariants.Missing word) = codes "missing " ++ setting_text word
 book_text (book.TheVariants.WallReach wall reach) = codes "reach " ++ (signed_decimal wall ++ (codes " " ++ signed_decimal reach))
-book_text (book.TheVariants.NotYet line) = codes "not yet " ++ decimal line
 book_text book.TheVariants.Memory = codes "memory"
 
 -- why a target is refused; the last is no text of a status

@@ -5,6 +5,7 @@ pub mod Book
 pub mod Causes
 pub mod Compiled
 pub mod Replayed
+pub mod Verdicts
 pub mod Statuses
 pub mod Run
 pub mod ErrorLines

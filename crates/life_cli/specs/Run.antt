@@ -10,18 +10,21 @@ use Rattle.life_cli.specs.declared.status.Status.TheVariants.{Done, Words, Write
 use Rattle.life_cli.specs.Words as command
 use Rattle.life_cli.specs.Words.{AreRefused}
 use Rattle.life_cli.specs.Requests.{Request, Ask}
-use Rattle.life_cli.specs.Requests.Request.{Compile, Replay}
-use Rattle.life_cli.specs.Causes.{CompilingIsRefused, ReplayingIsRefused}
+use Rattle.life_cli.specs.Requests.Request.{Check, Compile, Replay}
+use Rattle.life_cli.specs.Causes.{CheckingIsRefused, CompilingIsRefused, ReplayingIsRefused}
 use Rattle.life_cli.specs.Compiled.{IsAnswer}
 use Rattle.life_cli.specs.Replayed.{IsReplay}
+use Rattle.life_cli.specs.Verdicts.{IsReport}
 
 -- the bytes answer the request
 abbrev pub Answer : Request → List HeldText → List ℕ → Type 0
+Answer (Check book) texts bytes = IsReport texts book bytes
 Answer (Compile book target) texts bytes = IsAnswer texts book target bytes
 Answer (Replay pattern n) texts bytes = IsReplay texts pattern n bytes
 
 -- no answer to the request was made, and why; before and now are the depot's counts of faults
 abbrev pub IsRefused : Request → Option (List HeldText) → ℕ → ℕ → Status → Type 0
+IsRefused (Check book) told before now status = CheckingIsRefused told book before now status
 IsRefused (Compile book target) told before now status = CompilingIsRefused told book target before now status
 IsRefused (Replay pattern n) told before now status = ReplayingIsRefused told pattern before now status
 
@@ -52,6 +55,7 @@ Ends ws told read_before read_now old new write_before write_now other = (new �
 
 -- the texts that a request names are held
 abbrev pub AreHeld : Request → Option (List HeldText) → Type 0
+AreHeld (Check book) told = Holds told book
 AreHeld (Compile book target) told = Holds told book × Holds told target
 AreHeld (Replay pattern n) told = Holds told pattern
 

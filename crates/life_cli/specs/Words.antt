@@ -31,6 +31,11 @@ first_dash words = position (λ (word : String Global). has_dash (string_bytes w
 abbrev pub texts_of : Words → List (List ℕ)
 texts_of words = map (λ (word : String Global). string_bytes word) words
 
+-- `check BOOK`
+pub record IsCheck (words : Words) (book : List ℕ) : Type 0 where
+  pub whole : texts_of words ≡ codes "check" ∷ (book ∷ [])
+  pub plain : first_dash words ≡ None
+
 -- `compile BOOK TARGET`
 pub record IsCompile (words : Words) (book target : List ℕ) : Type 0 where
   pub whole : texts_of words ≡ codes "compile" ∷ (book ∷ (target ∷ []))
@@ -59,15 +64,19 @@ pub record BeginsWith (words : Words) (first : List ℕ) (rest : List (List ℕ)
   pub whole : texts_of words ≡ first ∷ rest
   pub plain : first_dash words ≡ None
 
--- the words begin with a command
-abbrev pub IsNamed : List ℕ → Type 0
-IsNamed first = (first ≡ codes "compile") ⊎ (first ≡ codes "replay")
+-- a command that takes so many words behind it
+abbrev pub Takes : List ℕ → ℕ → Type 0
+Takes first many = ((first ≡ codes "check") × (many ≡ 1)) ⊎ (((first ≡ codes "compile") × (many ≡ 2)) ⊎ ((first ≡ codes "replay") × (many ≡ 2)))
+
+-- the word is a command
+abbrev pub IsCommand : List ℕ → Type 0
+IsCommand first = (many : ℕ) × Takes first many
 
 -- the words are refused so; places count from 1
 abbrev pub AreRefused : Words → WordsError → Type 0
 AreRefused words NoCommand = words ≡ []
 AreRefused words (Dash place) = (before : ℕ) × ((first_dash words ≡ Some before) × (place ≡ before + 1))
-AreRefused words UnknownCommand = (first : List ℕ) × ((rest : List (List ℕ)) × (BeginsWith words first rest × (IsNamed first → ⊥)))
-AreRefused words WrongCount = (first : List ℕ) × ((rest : List (List ℕ)) × (BeginsWith words first rest × (IsNamed first × (length rest ≢ 2))))
+AreRefused words UnknownCommand = (first : List ℕ) × ((rest : List (List ℕ)) × (BeginsWith words first rest × (IsCommand first → ⊥)))
+AreRefused words WrongCount = (first : List ℕ) × ((rest : List (List ℕ)) × (BeginsWith words first rest × (IsCommand first × (Takes first (length rest) → ⊥))))
 AreRefused words (BadNumber place) =
     (place ≡ 3) × ((pattern : List ℕ) × ((number : List ℕ) × (NamesReplay words pattern number × ((n : ℕ) → IsGenerations number n → ⊥))))

@@ -99,7 +99,7 @@ fn checked<L: Ledger>(
     ensures steps { steps.old ≤ steps.new }
 {
     match check_book(alloc, book, steps) {
-        Ok(found) => Ok(found),
+        Ok((found, _)) => Ok(found),
         Err(BookRefusal::Memory) => Err(Status::Memory),
         Err(refusal) => Err(Status::BadBook(refusal)),
     }

@@ -1,6 +1,7 @@
 //! The top call of the program: from the words of the command line and the texts of a depot to the bytes of a sink.
 #![tactic(auto)]
 
+mod checking;
 mod compiling;
 mod fetch;
 mod inputs;

@@ -98,7 +98,6 @@ fn book_text(alloc: Global, fault: BookError) -> Result<String, AllocError>
             format!(in alloc; "missing {word}")
         }
         BookError::WallReach { wall, reach } => format!(in alloc; "reach {wall} {reach}"),
-        BookError::NotYet { line } => format!(in alloc; "not yet {line}"),
         BookError::Memory => String::from_str(alloc, "memory"),
     }
 }

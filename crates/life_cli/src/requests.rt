@@ -5,6 +5,7 @@ ghost use Rattle.life_io.specs.Counts.{IsLaterCount};
 ghost use Rattle.life_cli.specs.Requests.{request_of};
 ghost use Rattle.life_cli.specs.Run.{Answer, IsRefused, AreHeld};
 
+use crate::checking::check;
 use crate::compiling::compile;
 use crate::replaying::replay;
 use crate::status::Status;
@@ -31,6 +32,7 @@ pub(crate) fn answer<D: Depot, L: Ledger>(
     ensures steps { steps.old ≤ steps.new }
 {
     match *command {
+        Command::Check { book } => check(alloc, book, depot, steps),
         Command::Compile { book, target } => compile(alloc, book, target, depot, steps),
         Command::Replay {
             pattern,

@@ -38,6 +38,11 @@ pub enum WordsError {
 /// A command, with the names of its texts.
 #[derive(Clone, Copy, Debug)]
 pub enum Command<'a> {
+    /// Checks each entry of a book.
+    Check {
+        /// The book's name.
+        book: &'a str,
+    },
     /// Compiles a target with a book.
     Compile {
         /// The book's name.
@@ -78,6 +83,17 @@ fn is_word(word: &str, other: &str) -> bool
     word == other
 }
 
+// The word behind the first, where there is just one.
+fn one_behind(words: &[String]) -> Option<&str>
+    ensures some { IfSome result (λ one. (first : List ℕ) × (texts_of words.now ≡ first ∷ (one.now ∷ []))) }
+    ensures none { IfNone result (length words.now ≢ 2) }
+{
+    if words.len() != 2 {
+        return None;
+    }
+    Some(words[1].as_str())
+}
+
 // The two words behind the first, where there are just two.
 fn two_behind(words: &[String]) -> Option<(&str, &str)>
     ensures some { IfSome result (λ two. (first : List ℕ) × (texts_of words.now ≡ first ∷ (two.0.now ∷ (two.1.now ∷ [])))) }
@@ -113,6 +129,18 @@ fn generations_of(word: &str) -> Option<u32>
     }
 }
 
+// The command `check` of these words, the first of which names it.
+fn read_check(words: &[String]) -> Result<Command<'_>, WordsError>
+    requires { (rest : List (List ℕ)) × BeginsWith words.now (codes "check") rest }
+    ensures ok { IfOk result (λ command. Ask words.now (request_of command)) }
+    ensures err { IfErr result (λ e. AreRefused words.now e) }
+{
+    match one_behind(words) {
+        Some(book) => Ok(Command::Check { book }),
+        None => Err(WordsError::WrongCount),
+    }
+}
+
 // The command `compile` of these words, the first of which names it.
 fn read_compile(words: &[String]) -> Result<Command<'_>, WordsError>
     requires { (rest : List (List ℕ)) × BeginsWith words.now (codes "compile") rest }
@@ -143,7 +171,7 @@ fn read_replay(words: &[String]) -> Result<Command<'_>, WordsError>
     }
 }
 
-/// The command that the words say: `compile BOOK TARGET` or `replay PATTERN N` (docs/FORMATS.md, "Command line").
+/// The command that the words say: `check BOOK`, `compile BOOK TARGET` or `replay PATTERN N` (docs/FORMATS.md, "Command line").
 ///
 /// # Errors
 /// The first that holds, in this order: no word, a word that begins with `-`, an unknown command, another number of words, an N that is no
@@ -159,6 +187,9 @@ pub fn read_words(words: &[String]) -> Result<Command<'_>, WordsError>
         return Err(WordsError::Dash { place: before + 1 });
     }
     let name = words[0].as_str();
+    if is_word(name, "check") {
+        return read_check(words);
+    }
     if is_word(name, "compile") {
         return read_compile(words);
     }

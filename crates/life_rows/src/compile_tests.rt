@@ -85,8 +85,8 @@ fn books_of_one_turn_end_as_they_should(rt: HostRuntime) -> Result<(), Fail> {
         ),
         (9, "hand 3o!", 6, "", "life: hand moves 1 -1\n"),
         (3, "reach 12", 4, "", "life: book reach 4 12\n"),
-        (5, "room 513", 4, "", "life: book not yet 6\n"),
-        (11, "start other", 4, "", "life: book not yet 12\n"),
+        (5, "room 513", 4, "", "life: book limit 6 513\n"),
+        (11, "start other", 4, "", "life: book kind 12\n"),
     ];
     for (place, line, number, out, err) in cases {
         let book = book_with(alloc, place, line)?;
@@ -132,7 +132,7 @@ fn books_of_many_turns_end_as_they_should(rt: HostRuntime) -> Result<(), Fail> {
             "turn second two move none 64 30 : 0",
             4,
             "",
-            "life: book not yet 16\n",
+            "life: book line 16 form\n",
         ),
     ];
     for (place, line, number, part, err) in cases {

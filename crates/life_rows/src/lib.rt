@@ -2,6 +2,8 @@
 #![tactic(auto)]
 
 #[cfg(test)]
+mod check_tests;
+#[cfg(test)]
 mod compile_tests;
 #[cfg(test)]
 mod replay_tests;

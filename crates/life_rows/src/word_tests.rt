@@ -11,6 +11,10 @@ fn words_and_targets_end_as_they_should(rt: HostRuntime) -> Result<(), Fail> {
         ("", EMPTY, 1, "life: words none\n"),
         ("build book", EMPTY, 1, "life: words unknown\n"),
         ("compile book", EMPTY, 1, "life: words count\n"),
+        ("check book target", EMPTY, 1, "life: words count\n"),
+        ("check", EMPTY, 1, "life: words count\n"),
+        ("check -v", EMPTY, 1, "life: words dash 2\n"),
+        ("check other", EMPTY, 2, "life: read fault\n"),
         ("compile -v target", EMPTY, 1, "life: words dash 2\n"),
         (
             "replay target 4294967296",

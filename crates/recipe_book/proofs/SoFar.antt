@@ -1,109 +1,120 @@
--- The sound turns so far, as turns are checked one after the other.
-use Rattle.std.specs.Prelude.{◌≡◌, ℕ, ◌+◌, ◌≤◌, List, [], ◌∷◌, ◌++◌, length}
-use Rattle.std.specs.List.{AllByRecursion}
-use Rattle.std.proofs.Common.{refl, sym, ap, subst, arith, inl, inr}
+-- The sound entries and the verdicts so far, as entries are judged one after the other.
+use Rattle.std.specs.Prelude.{◌≡◌, ℕ, ◌+◌, ◌≤◌, List, [], ◌∷◌, ◌++◌, length, map, sum_by}
+use Rattle.std.specs.List.{AllByRecursion, AllZip}
+use Rattle.std.proofs.Common.{refl, sym, ap, subst, ◌∙◌, arith, inl, inr, append_assoc}
 use Rattle.std.proofs.lemmas.List.{append-nil, length-append}
 use Rattle.std.proofs.lemmas.List.Sums.{sum_by-cons}
-use Rattle.life_cells.specs.Cells.{alive}
-use Rattle.book_parts.specs.declared.settings.Settings.{Settings}
-use Rattle.book_parts.specs.declared.kind.RawKind.{RawKind}
-use Rattle.book_parts.specs.declared.turn.RawTurn.{RawTurn}
-use Rattle.book_parts.specs.Proper.{IsProperTurn}
-use Rattle.recipe_turn.specs.Checked.{Checked, IsChecked, IsOf}
-use Rattle.recipe_turn.specs.Elbows.{raws}
-use Rattle.recipe_book.specs.Entries.{IsSoundIn, AreTheSound}
-use Rattle.recipe_book.specs.Accepting.{IsAccepted}
-use Rattle.recipe_book.specs.Refusals.{generations}
-use Rattle.recipe_turn.specs.Turn.{IsSound}
-use Rattle.book_parts.specs.Kinds.{kind_plane, next_plane}
+use Rattle.recipe_book.specs.Entries.{AreThose}
+use Rattle.recipe_book.specs.Accepting.{AddsVerdicts}
+use Rattle.recipe_book.specs.declared.verdict.Verdict.{Verdict}
 
--- what is found of all turns, with a rest of them still to be checked; before and now are the counts of generations
-pub record IsSoFar (settings : Settings) (kinds : List RawKind) (all rest : List RawTurn) (found : List Checked) (before now : ℕ) : Type 0 where
-  pub sound : (later : List RawTurn) → AreTheSound settings kinds rest later → AreTheSound settings kinds all (raws found ++ later)
-  pub proper : AllByRecursion (IsProperTurn (length kinds)) rest
-  pub own : AllByRecursion (IsOf settings kinds) found
-  pub checked : AllByRecursion IsChecked found
+-- What is found of all entries, with a rest of them still to be judged: raw gives an entry as its book states it, weight its most generations;
+-- old and now are the verdicts, before and after the counts of generations.
+pub record IsSoFar {A C : Type 0} (raw : C → A) (Sound : A → Type 0) (Kept : C → Type 0) (Judges : A → Verdict → Type 0) (Proper : A → Type 0) (weight : A → ℕ)
+    (all rest : List A) (found : List C) (old now : List Verdict) (before after : ℕ) : Type 0 where
+  pub sound : (later : List A) → AreThose Sound rest later → AreThose Sound all (map raw found ++ later)
+  pub proper : AllByRecursion Proper rest
+  pub kept : AllByRecursion Kept found
   pub few : (length found + length rest) ≤ length all
-  pub least : before ≤ now
-  pub most : (now + generations rest) ≤ (before + generations all)
+  pub added : List Verdict
+  pub grown : now ≡ old ++ added
+  pub judged : (later : List Verdict) → AllZip Judges rest later → AllZip Judges all (added ++ later)
+  pub least : before ≤ after
+  pub most : (after + sum_by weight rest) ≤ (before + sum_by weight all)
 
 all_push : {A : Type 0} (P : A → Type 0) (xs : List A) (x : A) → AllByRecursion P xs → P x → AllByRecursion P (xs ++ (x ∷ []))
 all_push P [] x h p = (p, tt)
 all_push P (y ∷ ys) x h p = (h.0, all_push P ys x h.1 p)
 
-pub begins : (settings : Settings) (kinds : List RawKind) (all : List RawTurn) (before : ℕ) → AllByRecursion (IsProperTurn (length kinds)) all → IsSoFar settings kinds all all [] before before
-begins settings kinds all before p = record {
+map_push : {A C : Type 0} (raw : C → A) (found : List C) (c : C) (later : List A) → map raw (found ++ (c ∷ [])) ++ later ≡ map raw found ++ (raw c ∷ later)
+map_push raw [] c later = refl
+map_push raw (f ∷ found) c later = ap (λ l. raw f ∷ l) (map_push raw found c later)
+
+pub begins : {A C : Type 0} (raw : C → A) (Sound : A → Type 0) (Kept : C → Type 0) (Judges : A → Verdict → Type 0) (Proper : A → Type 0) (weight : A → ℕ)
+    (all : List A) (old : List Verdict) (before : ℕ) → AllByRecursion Proper all → IsSoFar raw Sound Kept Judges Proper weight all all [] old old before before
+begins raw Sound Kept Judges Proper weight all old before p = record {
   sound = λ later h. h;
   proper = p;
-  own = tt;
-  checked = tt;
+  kept = tt;
   few = omega arith;
+  added = [];
+  grown = sym (append-nil old);
+  judged = λ later h. h;
   least = omega arith;
   most = omega arith;
 }
 
--- the next turn isn't sound
-pub skips : (settings : Settings) (kinds : List RawKind) (all : List RawTurn) (turn : RawTurn) (rest : List RawTurn) (found : List Checked) (before now next : ℕ) →
-    (IsSoundIn settings kinds turn → ⊥) → now ≤ next → next ≤ now + turn.n → IsSoFar settings kinds all (turn ∷ rest) found before now → IsSoFar settings kinds all rest found before next
-skips settings kinds all turn rest found before now next unsound low high s =
-    let sum = sum_by-cons (λ (t : RawTurn). t.n) turn rest in
+-- the next entry isn't sound
+pub skips : {A C : Type 0} {raw : C → A} {Sound : A → Type 0} {Kept : C → Type 0} {Judges : A → Verdict → Type 0} {Proper : A → Type 0} {weight : A → ℕ}
+    {all : List A} {x : A} {rest : List A} {found : List C} {old now : List Verdict} {before after : ℕ} → (next : ℕ) (v : Verdict) →
+    (Sound x → ⊥) → Judges x v → after ≤ next → next ≤ after + weight x →
+    IsSoFar raw Sound Kept Judges Proper weight all (x ∷ rest) found old now before after → IsSoFar raw Sound Kept Judges Proper weight all rest found old (now ++ (v ∷ [])) before next
+skips {weight = weight} {x = x} {rest = rest} {old = old} next v unsound judges low high s =
+    let sum = sum_by-cons weight x rest in
     let few = s.few in
     let least = s.least in
     let most = s.most in
     record {
       sound = λ later h. s.sound later (inr (unsound, h));
       proper = s.proper.1;
-      own = s.own;
-      checked = s.checked;
+      kept = s.kept;
       few = omega arith;
+      added = s.added ++ (v ∷ []);
+      grown = ap (λ l. l ++ (v ∷ [])) s.grown ∙ append_assoc old s.added (v ∷ []);
+      judged = λ later h. subst (AllZip _ _) (sym (append_assoc s.added (v ∷ []) later)) (s.judged (v ∷ later) (judges, h));
       least = omega arith;
       most = omega arith;
     }
 
-raws_push : (found : List Checked) (c : Checked) (later : List RawTurn) → raws (found ++ (c ∷ [])) ++ later ≡ raws found ++ (c.raw ∷ later)
-raws_push [] c later = refl
-raws_push (f ∷ found) c later = ap (λ l. f.raw ∷ l) (raws_push found c later)
-
--- what is sound of an accepted turn
-sound_of : (settings : Settings) (kinds : List RawKind) (turn : RawTurn) (c : Checked) → IsAccepted settings kinds turn c → IsSoundIn settings kinds turn
-sound_of settings kinds turn c a =
-    subst (λ (t : RawTurn). IsSoundIn settings kinds t) a.raw
-    (subst (λ (s : Settings). IsSound s (kind_plane kinds c.raw.kind) (next_plane kinds c.raw.end) c.raw) a.own.settings_are
-    (subst (λ p. IsSound c.settings p (next_plane kinds c.raw.end) c.raw) a.own.kind_is
-    (subst (λ p. IsSound c.settings (alive c.kind) p c.raw) a.own.next_is a.checked.sound)))
-
--- the next turn is sound
-pub takes : (settings : Settings) (kinds : List RawKind) (all : List RawTurn) (turn : RawTurn) (rest : List RawTurn) (found : List Checked) (c : Checked) (before now next : ℕ) →
-    IsAccepted settings kinds turn c → now ≤ next → next ≤ now + turn.n → IsSoFar settings kinds all (turn ∷ rest) found before now → IsSoFar settings kinds all rest (found ++ (c ∷ [])) before next
-takes settings kinds all turn rest found c before now next a low high s =
-    let sum = sum_by-cons (λ (t : RawTurn). t.n) turn rest in
+-- the next entry is sound
+pub takes : {A C : Type 0} {raw : C → A} {Sound : A → Type 0} {Kept : C → Type 0} {Judges : A → Verdict → Type 0} {Proper : A → Type 0} {weight : A → ℕ}
+    {all : List A} {x : A} {rest : List A} {found : List C} {old now : List Verdict} {before after : ℕ} → (next : ℕ) (v : Verdict) (c : C) →
+    raw c ≡ x → Sound x → Kept c → Judges x v → after ≤ next → next ≤ after + weight x →
+    IsSoFar raw Sound Kept Judges Proper weight all (x ∷ rest) found old now before after →
+    IsSoFar raw Sound Kept Judges Proper weight all rest (found ++ (c ∷ [])) old (now ++ (v ∷ [])) before next
+takes {raw = raw} {Sound = Sound} {Kept = Kept} {weight = weight} {all = all} {x = x} {rest = rest} {found = found} {old = old} next v c is sound kept judges low high s =
+    let sum = sum_by-cons weight x rest in
     let longer = length-append found (c ∷ []) in
     let few = s.few in
     let least = s.least in
     let most = s.most in
     record {
-      sound = λ later h. subst (AreTheSound settings kinds all) (sym (raws_push found c later))
-          (s.sound (c.raw ∷ later) (inl (sound_of settings kinds turn c a, (later, (ap (λ t. t ∷ later) a.raw, h)))));
+      sound = λ later h. subst (AreThose Sound all) (sym (map_push raw found c later))
+          (s.sound (raw c ∷ later) (inl (sound, (later, (ap (λ t. t ∷ later) is, h)))));
       proper = s.proper.1;
-      own = all_push (IsOf settings kinds) found c s.own a.own;
-      checked = all_push IsChecked found c s.checked a.checked;
+      kept = all_push Kept found c s.kept kept;
       few = omega arith;
+      added = s.added ++ (v ∷ []);
+      grown = ap (λ l. l ++ (v ∷ [])) s.grown ∙ append_assoc old s.added (v ∷ []);
+      judged = λ later h. subst (AllZip _ _) (sym (append_assoc s.added (v ∷ []) later)) (s.judged (v ∷ later) (judges, h));
       least = omega arith;
       most = omega arith;
     }
 
-pub ends : (settings : Settings) (kinds : List RawKind) (all : List RawTurn) (found : List Checked) (before now : ℕ) → IsSoFar settings kinds all [] found before now → AreTheSound settings kinds all (raws found)
-ends settings kinds all found before now s = subst (AreTheSound settings kinds all) (append-nil (raws found)) (s.sound [] refl)
+pub sound_at_end : {A C : Type 0} {raw : C → A} {Sound : A → Type 0} {Kept : C → Type 0} {Judges : A → Verdict → Type 0} {Proper : A → Type 0} {weight : A → ℕ}
+    {all : List A} {found : List C} {old now : List Verdict} {before after : ℕ} →
+    IsSoFar raw Sound Kept Judges Proper weight all [] found old now before after → AreThose Sound all (map raw found)
+sound_at_end {raw = raw} {Sound = Sound} {all = all} {found = found} s = subst (AreThose Sound all) (append-nil (map raw found)) (s.sound [] refl)
 
--- no more generations are counted than all turns have, wherever the checking stops
-pub record IsWithin (before now : ℕ) (all : List RawTurn) : Type 0 where
+pub verdicts_at_end : {A C : Type 0} {raw : C → A} {Sound : A → Type 0} {Kept : C → Type 0} {Judges : A → Verdict → Type 0} {Proper : A → Type 0} {weight : A → ℕ}
+    {all : List A} {found : List C} {old now : List Verdict} {before after : ℕ} →
+    IsSoFar raw Sound Kept Judges Proper weight all [] found old now before after → AddsVerdicts Judges all old now
+verdicts_at_end s = record {
+  added = s.added;
+  grown = s.grown;
+  are = subst (AllZip _ _) (append-nil s.added) (s.judged [] tt);
+}
+
+-- no more generations are counted than all entries may take, wherever the judging stops
+pub record IsWithin {A : Type 0} (weight : A → ℕ) (before now : ℕ) (all : List A) : Type 0 where
   pub least : before ≤ now
-  pub most : now ≤ (before + generations all)
+  pub most : now ≤ (before + sum_by weight all)
 
-pub within : (settings : Settings) (kinds : List RawKind) (all : List RawTurn) (turn : RawTurn) (rest : List RawTurn) (found : List Checked) (before now next : ℕ) →
-    now ≤ next → next ≤ now + turn.n → IsSoFar settings kinds all (turn ∷ rest) found before now → IsWithin before next all
-within settings kinds all turn rest found before now next low high s =
-    let sum = sum_by-cons (λ (t : RawTurn). t.n) turn rest in
+pub within : {A C : Type 0} {raw : C → A} {Sound : A → Type 0} {Kept : C → Type 0} {Judges : A → Verdict → Type 0} {Proper : A → Type 0} {weight : A → ℕ}
+    {all : List A} {x : A} {rest : List A} {found : List C} {old now : List Verdict} {before after : ℕ} → (next : ℕ) → after ≤ next → next ≤ after + weight x →
+    IsSoFar raw Sound Kept Judges Proper weight all (x ∷ rest) found old now before after → IsWithin weight before next all
+within {weight = weight} {x = x} {rest = rest} next low high s =
+    let sum = sum_by-cons weight x rest in
     let least = s.least in
     let most = s.most in
     record { least = omega arith; most = omega arith }

@@ -1,5 +1,8 @@
 -- What is known of a book that was checked, and why a book is refused.
 pub mod Entries
+pub mod Verdicts
 pub mod Accepting
 pub mod Checked
+pub mod ByShape
 pub mod Refusals
+pub mod Made

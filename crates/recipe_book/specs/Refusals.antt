@@ -1,10 +1,11 @@
 -- Why a book is refused, the first cause in order: its kinds, its hand, the number of its elbow states.
-use Rattle.std.specs.Prelude.{◌≡◌, ℕ, ℤ, List, ◌+◌, sum_by}
+use Rattle.std.specs.Prelude.{◌≡◌, ℕ, ℤ, List, ◌+◌, ◌*◌, length, sum_by}
 use Rattle.life_cells.specs.Cells.{Cells, alive}
 use Rattle.book_parts.specs.declared.settings.Settings.{Settings}
 use Rattle.life_plane.specs.Plane.{IsStill}
 use Rattle.book_parts.specs.declared.kind.RawKind.{RawKind}
 use Rattle.book_parts.specs.declared.turn.RawTurn.{RawTurn}
+use Rattle.book_parts.specs.declared.salvo.RawSalvo.{RawSalvo}
 use Rattle.life_cells.specs.Firsts.{IsFirstChange}
 use Rattle.recipe_turn.specs.Checked.{AreValid}
 use Rattle.recipe_turn.specs.Refusals.{KindsAreRefused}
@@ -52,3 +53,7 @@ StatesRefuse turns start span other = ⊥
 -- the generations of all turns
 abbrev pub generations : List RawTurn → ℕ
 generations turns = sum_by (λ (turn : RawTurn). turn.n) turns
+
+-- the most generations that the hits of all salvos take: 4,097 for each lane
+abbrev pub most_hit_generations : List RawSalvo → ℕ
+most_hit_generations salvos = sum_by (λ (salvo : RawSalvo). 4097 * length salvo.lanes) salvos

@@ -4,21 +4,25 @@ ghost use Rattle.std.specs.Prelude.{◌≡◌, ◌+◌, ◌≤◌, IfOk, IfErr, 
 ghost use Rattle.std.specs.List.{AllByRecursion};
 ghost use Rattle.life_cells.specs.Cells.{alive};
 ghost use Rattle.life_plane.specs.Plane.{IsStill};
-ghost use Rattle.book_parts.specs.Limits.{AreProper, IsPlaced};
-ghost use Rattle.book_parts.specs.Proper.{IsProperBook, IsProperKind};
+ghost use Rattle.book_parts.specs.Limits.{AreProper};
+ghost use Rattle.book_parts.specs.Proper.{IsProperBook, IsProperHand, IsProperKind};
 ghost use Rattle.recipe_turn.specs.Checked.{AreValid};
 ghost use Rattle.recipe_turn.specs.Elbows.{raws, HasStates};
-ghost use Rattle.recipe_book.specs.Checked.{most_states};
-ghost use Rattle.recipe_book.specs.Entries.{AreTheSound};
-ghost use Rattle.recipe_book.specs.Refusals.{BookIsRefused, KindsRefuse, HandRefuses, StatesRefuse, generations};
+ghost use Rattle.recipe_book.specs.Checked.{most_states, raw_salvos};
+ghost use Rattle.recipe_book.specs.Entries.{AreTheSound, AreTheSoundSalvos};
+ghost use Rattle.recipe_book.specs.Verdicts.{AreVerdicts};
+ghost use Rattle.recipe_book.specs.Refusals.{BookIsRefused, KindsRefuse, HandRefuses, StatesRefuse, generations, most_hit_generations};
 
-use crate::accepted::sound_turns;
 use crate::checked_book::CheckedBook;
+use crate::index::index_by_shape;
 use crate::refusal::BookRefusal;
+use crate::salvos::sound_salvos;
+use crate::turns::sound_turns;
+use crate::verdict::Verdict;
 use book_parts::{RawBook, RawKind, Settings};
 use life_cells::{CellSet, NoMemory};
 use life_steps::Steps;
-use life_tiles::first_change;
+use recipe_hit::{Hand, HandRefusal, check_hand};
 use recipe_turn::{CheckedTurn, Kinds, KindsError, check_kinds, elbow_states};
 use std::alloc::Global;
 use std::sync::ledger::Ledger;
@@ -53,22 +57,23 @@ fn valid_kinds<L: Ledger>(
     }
 }
 
-// Refuses a hand that changes.
-fn check_hand<L: Ledger>(
+// The hand, where it is still.
+fn still_hand<L: Ledger>(
     alloc: Global,
-    hand: &CellSet,
+    hand: CellSet,
     steps: &mut Steps<L>,
-) -> Result<(), BookRefusal>
-    requires { IsPlaced (alive hand.now) }
-    ensures still { IfOk result (λ _. IsStill (alive hand.now)) }
-    ensures err { IfErr result (λ e. HandRefuses hand.now e) }
+) -> Result<Hand, BookRefusal>
+    requires { IsProperHand (alive hand) }
+    ensures same { IfOk result (λ checked. checked ≡ hand) }
+    ensures still { IfOk result (λ _. IsStill (alive hand)) }
+    ensures err { IfErr result (λ e. HandRefuses hand e) }
     ensures least { steps.old ≤ steps.new }
     ensures most { steps.new ≤ steps.old + 1 }
 {
-    match first_change(alloc, hand, steps) {
-        Ok(None) => Ok(()),
-        Ok(Some(cell)) => Err(BookRefusal::HandNotStill { cell }),
-        Err(NoMemory) => Err(BookRefusal::Memory),
+    match check_hand(alloc, hand, steps) {
+        Ok(checked) => Ok(checked),
+        Err((_, HandRefusal::NotStill { cell })) => Err(BookRefusal::HandNotStill { cell }),
+        Err((_, HandRefusal::Memory)) => Err(BookRefusal::Memory),
     }
 }
 
@@ -92,8 +97,9 @@ fn check_states(
     }
 }
 
-/// The book with exactly its sound turns (docs/DEFINITIONS.md, "Sound turn"), in book order. Each turn is evolved once, and the kinds
-/// and the hand for one generation each; every generation is counted in `steps`.
+/// The book with exactly its sound turns and salvos (docs/DEFINITIONS.md, "Sound turn", "Sound salvo"), in book order, and a verdict on each
+/// entry: those on the turns, then those on the salvos. Each entry is evolved once, and the kinds and the hand for one generation each; every
+/// generation is counted in `steps`.
 ///
 /// # Errors
 /// The first that holds, in this order: a kind out of place or not still, the first such kind (`KindPlace`, `KindNotStill`); a hand that
@@ -102,27 +108,35 @@ pub fn check_book<L: Ledger>(
     alloc: Global,
     book: RawBook,
     steps: &mut Steps<L>,
-) -> Result<CheckedBook, BookRefusal>
+) -> Result<(CheckedBook, Vec<Verdict>), BookRefusal>
     requires { IsProperBook book }
-    ensures settings { IfOk result (λ checked. checked.settings ≡ book.settings) }
-    ensures kinds { IfOk result (λ checked. checked.kinds ≡ book.kinds.items) }
-    ensures start { IfOk result (λ checked. checked.start ≡ book.start) }
-    ensures hand { IfOk result (λ checked. checked.hand ≡ book.hand) }
-    ensures turns { IfOk result (λ checked. AreTheSound book.settings book.kinds.items book.turns.items (raws checked.turns)) }
+    ensures settings { IfOk result (λ r. r.0.settings ≡ book.settings) }
+    ensures kinds { IfOk result (λ r. r.0.kinds ≡ book.kinds.items) }
+    ensures start { IfOk result (λ r. r.0.start ≡ book.start) }
+    ensures hand { IfOk result (λ r. r.0.hand ≡ book.hand) }
+    ensures turns { IfOk result (λ r. AreTheSound book.settings book.kinds.items book.turns.items (raws r.0.turns)) }
+    ensures salvos { IfOk result (λ r. AreTheSoundSalvos (alive book.hand) book.salvos.items (raw_salvos r.0.salvos)) }
+    ensures verdicts { IfOk result (λ r. AreVerdicts book.settings book.kinds.items (alive book.hand) book.turns.items book.salvos.items r.1.items) }
     ensures refusal { IfErr result (λ e. BookIsRefused book.settings book.hand book.kinds.items book.start book.turns.items e) }
     ensures least { steps.old ≤ steps.new }
-    ensures most { steps.new ≤ steps.old + ((generations book.turns.items + length book.kinds.items) + 1) }
+    ensures most { steps.new ≤ steps.old + (((generations book.turns.items + most_hit_generations book.salvos.items) + length book.kinds.items) + 1) }
 {
     let settings = book.settings;
     let kinds = valid_kinds(alloc, &settings, book.kinds, steps)?;
-    check_hand(alloc, &book.hand, steps)?;
-    let turns = sound_turns(alloc, &settings, &kinds, book.turns, steps)?;
+    let hand = still_hand(alloc, book.hand, steps)?;
+    let mut verdicts = Vec::new(alloc);
+    let turns = sound_turns(alloc, &settings, &kinds, book.turns, &mut verdicts, steps)?;
     check_states(alloc, &turns, book.start, &settings)?;
-    Ok(CheckedBook {
+    let salvos = sound_salvos(alloc, &hand, book.salvos, &mut verdicts, steps)?;
+    let index = index_by_shape(alloc, &salvos)?;
+    let checked = CheckedBook {
         settings,
         kinds,
         start: book.start,
-        hand: book.hand,
+        hand,
         turns,
-    })
+        salvos,
+        index,
+    };
+    Ok((checked, verdicts))
 }

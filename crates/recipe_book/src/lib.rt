@@ -1,12 +1,19 @@
-//! A recipe book whose entries were checked: exactly its sound turns, with its settings, kinds and hand.
+//! A recipe book whose entries were checked: exactly its sound turns and salvos, with its settings, kinds and hand, and a verdict on each
+//! entry.
 #![tactic(auto)]
 
-mod accepted;
 pub mod checked_book;
 mod checking;
+mod index;
 pub mod laws;
 pub mod refusal;
+mod salvos;
+#[cfg(test)]
+mod tests;
+mod turns;
+pub mod verdict;
 
 pub use checked_book::CheckedBook;
 pub use checking::check_book;
 pub use refusal::BookRefusal;
+pub use verdict::Verdict;

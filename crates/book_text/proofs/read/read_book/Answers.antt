@@ -1,47 +1,36 @@
-use Rattle.std.proofs.Common.{◌≡◌, pos, ◌+ℤ◌, ◌≤ℤ◌, sym, ap, subst}
-use mir.Syntax.{w64}
-use Rattle.std.specs.Str.Lines.{lines}
-use Rattle.std.proofs.lemmas.Int.{to_z-of_z}
-use Rattle.std.proofs.lemmas.Result.{err_from_is_err_and}
-use Rattle.book_parts.specs.Limits.{IsFrom}
-use Rattle.book_parts.specs.declared.settings.Settings.{Settings}
-use Rattle.book_text.specs.Fields.{texts}
-use Rattle.book_text.proofs.Firsts.{stops_with, firsts_say}
-use Rattle.book_text.proofs.Numbers.{wall_fits, reach_fits, margin_fits, reach_near, reach_far}
-use Rattle.book_text.proofs.ProperBook.{wall_within, reach_within, proper_said, proper_book}
+use Rattle.std.proofs.Common.{rules, ◌≡◌, ◌≢◌, ◌<◌, ◌≤◌, ◌+◌, ◌⊎◌, inl, inr, ℕ, ℤ, List, length, [], ◌∷◌, ◌++◌, refl, take, arith, ap, subst, sym, ◌∙◌, Option, Some, None, true, false, tests, map, flat_map}
 use Rattle.book_text.proofs.read.read_book.Goals as goal
+use Rattle.std.specs.Str.Lines.{lines}
+use Rattle.book_text.specs.Stated.{Stated, nothing_stated}
+use Rattle.book_text.specs.Book.{StopsWith}
+use Rattle.book_text.specs.Drafted.{stated_of}
+use Rattle.book_text.proofs.Sound.{AreSettings, no_settings, settings_fine}
+use Rattle.book_text.proofs.Refusing.{err_is}
+use Rattle.book_text.proofs.Finishing.{begun_refused, draft_refused, read_of, finished_err, finished_ok, finished_proper}
 
-pub returns-in_err-book-clause-err : goal.returns-in_err-book-clause-err
-returns-in_err-book-clause-err c =
-    let same = err_from_is_err_and c.from_residual-in_err-book.result c.from_residual-in_err-book.ensures.1 in
-    let stops = rw c.deref.ensures.value at c.in_err-book.ensures.err in
-    rw (same.1, same.2) (stops_with c.args.text.now (texts c.in_ok-lines.lines.items) c.in_err-book.field-0.0 c.in_ok-lines.ensures stops)
+pub book_of-requires : goal.book_of-requires
+book_of-requires c = (settings_fine nothing_stated (lines c.in_ok-begun.begun.body.now) (stated_of c.in_ok-draft.draft) no_settings c.in_ok-draft.ensures.fine).wall
 
-pub overflow_add-wall : goal.overflow_add-wall
-overflow_add-wall c =
-    let ok = rw c.deref.ensures.value at c.in_ok-book.ensures.ok in
-    let wall = subst (λ (s : Settings). IsFrom (pos 1) (pos 4096) s.wall) (sym ok.1.1.settings) (wall_within (texts c.in_ok-lines.lines.items) ok.0 ok.1.0) in
-    margin_fits c.in_ok-book.book.settings.wall wall
+pub returns-in_err-begun-clause-err : goal.returns-in_err-begun-clause-err
+returns-in_err-begun-clause-err c =
+    err_is c.from_residual.result c.in_err-begun.field-0.0 (λ e. StopsWith c.args.text.now e) c.from_residual.ensures.1 (begun_refused c.args.text.now c.in_err-begun.field-0.0 c.in_err-begun.ensures.err)
 
-pub returns-then-reach-wall-clause-err : goal.returns-then-reach-wall-clause-err
-returns-then-reach-wall-clause-err c =
-    let ok = rw c.deref.ensures.value at c.in_ok-book.ensures.ok in
-    let same : c.in_ok-book.book.settings ≡ ok.0.settings = ok.1.1.settings in
-    let wall = subst (λ (s : Settings). IsFrom (pos 1) (pos 4096) s.wall) (sym same) (wall_within (texts c.in_ok-lines.lines.items) ok.0 ok.1.0) in
-    let reach = subst (λ (s : Settings). IsFrom (pos 1) (pos 65536) s.reach) (sym same) (reach_within (texts c.in_ok-lines.lines.items) ok.0 ok.1.0) in
-    rw (to_z-of_z w64 c.in_ok-book.book.settings.wall (wall_fits _ wall), to_z-of_z w64 c.in_ok-book.book.settings.reach (reach_fits _ reach))
-    (ok.0, (firsts_say (lines c.args.text.now) (texts c.in_ok-lines.lines.items) ok.0 c.in_ok-lines.ensures ok.1.0, (ap (λ (s : Settings). s.wall) (sym same), (ap (λ (s : Settings). s.reach) (sym same), reach_near c.in_ok-book.book.settings.wall c.in_ok-book.book.settings.reach wall reach c.if-reach-wall.true))))
+pub returns-in_err-draft-clause-err : goal.returns-in_err-draft-clause-err
+returns-in_err-draft-clause-err c =
+    err_is c.from_residual-in_err-draft.result c.in_err-draft.field-0.0 (λ e. StopsWith c.args.text.now e) c.from_residual-in_err-draft.ensures.1
+    (draft_refused c.args.text.now c.in_ok-begun.begun.number (lines c.in_ok-begun.begun.body.now) c.in_err-draft.field-0.0 c.in_ok-begun.ensures.ok c.in_err-draft.ensures.err)
 
 pub returns-clause-ok : goal.returns-clause-ok
 returns-clause-ok c =
-    let ok = rw c.deref.ensures.value at c.in_ok-book.ensures.ok in
-    (ok.0, (firsts_say (lines c.args.text.now) (texts c.in_ok-lines.lines.items) ok.0 c.in_ok-lines.ensures ok.1.0, ok.1.1))
+    let read = read_of c.args.text.now c.in_ok-begun.begun.number (lines c.in_ok-begun.begun.body.now) (stated_of c.in_ok-draft.draft) c.in_ok-begun.ensures.ok c.in_ok-draft.ensures.fine in
+    finished_ok c.args.text.now (stated_of c.in_ok-draft.draft) c.book_of.result read c.book_of.ensures.ok
 
 pub returns-clause-proper : goal.returns-clause-proper
 returns-clause-proper c =
-    let ok = rw c.deref.ensures.value at c.in_ok-book.ensures.ok in
-    let same : c.in_ok-book.book.settings ≡ ok.0.settings = ok.1.1.settings in
-    let wall = subst (λ (s : Settings). IsFrom (pos 1) (pos 4096) s.wall) (sym same) (wall_within (texts c.in_ok-lines.lines.items) ok.0 ok.1.0) in
-    let reach = subst (λ (s : Settings). IsFrom (pos 1) (pos 65536) s.reach) (sym same) (reach_within (texts c.in_ok-lines.lines.items) ok.0 ok.1.0) in
-    let far = reach_far c.in_ok-book.book.settings.wall c.in_ok-book.book.settings.reach wall reach c.if-reach-wall.false in
-    proper_book ok.0 c.in_ok-book.book (proper_said (texts c.in_ok-lines.lines.items) ok.0 ok.1.0 (subst (λ (s : Settings). (s.wall +ℤ pos 9) ≤ℤ s.reach) same far)) ok.1.1
+    let read = read_of c.args.text.now c.in_ok-begun.begun.number (lines c.in_ok-begun.begun.body.now) (stated_of c.in_ok-draft.draft) c.in_ok-begun.ensures.ok c.in_ok-draft.ensures.fine in
+    finished_proper c.args.text.now c.book_of.result (finished_ok c.args.text.now (stated_of c.in_ok-draft.draft) c.book_of.result read c.book_of.ensures.ok) c.book_of.ensures.far
+
+pub returns-clause-err : goal.returns-clause-err
+returns-clause-err c =
+    let read = read_of c.args.text.now c.in_ok-begun.begun.number (lines c.in_ok-begun.begun.body.now) (stated_of c.in_ok-draft.draft) c.in_ok-begun.ensures.ok c.in_ok-draft.ensures.fine in
+    finished_err c.args.text.now (stated_of c.in_ok-draft.draft) c.book_of.result read c.book_of.ensures.err

@@ -1,14 +1,28 @@
 -- The words, text by text, from their items.
-use Rattle.std.proofs.Common.{◌≡◌, ◌<◌, length, sym, ap, ◌∙◌, arith, true, false, ◌∷◌, ◌⊎◌, inl, inr}
+use Rattle.std.proofs.Common.{◌≡◌, ℕ, List, ◌<◌, length, sym, ap, ◌∙◌, arith, true, false, ◌∷◌, inl, inr}
+use Rattle.std.specs.Prelude.{codes}
+use Rattle.life_cli.specs.Words.{IsCommand}
 use Rattle.std.proofs.lemmas.Bool.Decides.{nat_tests}
 use Rattle.std.specs.String.{string_bytes}
 use Rattle.life_cli.proofs.WordLists.{rest_of, texts_from_first}
 use Rattle.life_cli.proofs.words.read_words.Goals as goal
 
--- none of two
-neither : (A B C : Type 0) → (A → C) → (B → C) → A ⊎ B → C
-neither A B C f g (inl a) = f a
-neither A B C f g (inr b) = g b
+-- a word that is none of the three is no command
+no_command : (first : List ℕ) → (first ≡ codes "check" → ⊥) → (first ≡ codes "compile" → ⊥) → (first ≡ codes "replay" → ⊥) → IsCommand first → ⊥
+no_command first a b c (many, inl h) = a h.0
+no_command first a b c (many, inr (inl h)) = b h.0
+no_command first a b c (many, inr (inr h)) = c h.0
+
+pub read_check-requires : goal.read_check-requires
+read_check-requires c =
+    let some : 0 < length c.args.words.now = grind (arith, nat_tests) in (
+      rest_of c.args.words.now,
+      record {
+        whole = texts_from_first c.args.words.now c.index-words-0.result some ∙ ap (λ w. string_bytes w ∷ rest_of c.args.words.now) (sym c.index-words-0.is)
+            ∙ ap (λ t. t ∷ rest_of c.args.words.now) (sym c.as_str-name.ensures.value ∙ c.is_word.ensures.0 c.if-is_word.true);
+        plain = sym c.first_dash.ensures ∙ c.in_default.is;
+      },
+    )
 
 pub read_compile-requires : goal.read_compile-requires
 read_compile-requires c =
@@ -16,7 +30,7 @@ read_compile-requires c =
       rest_of c.args.words.now,
       record {
         whole = texts_from_first c.args.words.now c.index-words-0.result some ∙ ap (λ w. string_bytes w ∷ rest_of c.args.words.now) (sym c.index-words-0.is)
-            ∙ ap (λ t. t ∷ rest_of c.args.words.now) (sym c.as_str-name.ensures.value ∙ c.is_word.ensures.0 c.if-is_word.true);
+            ∙ ap (λ t. t ∷ rest_of c.args.words.now) (sym c.as_str-name.ensures.value ∙ c.is_word-2.ensures.0 c.if-is_word-2.true);
         plain = sym c.first_dash.ensures ∙ c.in_default.is;
       },
     )
@@ -27,7 +41,7 @@ read_replay-requires c =
       rest_of c.args.words.now,
       record {
         whole = texts_from_first c.args.words.now c.index-words-0.result some ∙ ap (λ w. string_bytes w ∷ rest_of c.args.words.now) (sym c.index-words-0.is)
-            ∙ ap (λ t. t ∷ rest_of c.args.words.now) (sym c.as_str-name.ensures.value ∙ c.is_word-2.ensures.0 c.if-is_word-2.true);
+            ∙ ap (λ t. t ∷ rest_of c.args.words.now) (sym c.as_str-name.ensures.value ∙ c.is_word-3.ensures.0 c.if-is_word-3.true);
         plain = sym c.first_dash.ensures ∙ c.in_default.is;
       },
     )
@@ -43,8 +57,9 @@ returns-clause-err c =
             whole = texts_from_first c.args.words.now c.index-words-0.result some ∙ ap (λ w. string_bytes w ∷ rest_of c.args.words.now) (sym c.index-words-0.is);
             plain = sym c.first_dash.ensures ∙ c.in_default.is;
           },
-          neither _ _ _ (λ e. let bad : false ≡ true = sym c.if-is_word.false ∙ c.is_word.ensures.1 (c.as_str-name.ensures.value ∙ e) in cc)
-              (λ e. let bad : false ≡ true = sym c.if-is_word-2.false ∙ c.is_word-2.ensures.1 (c.as_str-name.ensures.value ∙ e) in cc),
+          no_command _ (λ e. let bad : false ≡ true = sym c.if-is_word.false ∙ c.is_word.ensures.1 (c.as_str-name.ensures.value ∙ e) in cc)
+              (λ e. let bad : false ≡ true = sym c.if-is_word-2.false ∙ c.is_word-2.ensures.1 (c.as_str-name.ensures.value ∙ e) in cc)
+              (λ e. let bad : false ≡ true = sym c.if-is_word-3.false ∙ c.is_word-3.ensures.1 (c.as_str-name.ensures.value ∙ e) in cc),
         ),
       ),
     )

@@ -1,0 +1,13 @@
+pub mod Digits
+pub mod Names
+pub mod Pieces
+pub mod Shifted
+pub mod Levels
+pub mod Uniqueness
+pub mod Drawing
+pub mod Keys
+pub mod Cutting
+pub mod Lifting
+pub mod Stating
+pub mod Worded
+pub mod Saying

@@ -1,0 +1,51 @@
+-- A text spells one number.
+use Rattle.std.proofs.Common.{◌≡◌, ℕ, ℤ, pos, neg_ℤ, ◌≤ℤ◌, List, [], ◌∷◌, true, inl, inr, sym, ap, ◌∙◌, subst, arith}
+use Rattle.std.specs.List.{AllZip}
+use Rattle.std.specs.Str.{all_ascii_digits}
+use Rattle.std.proofs.lemmas.Bool.{false≢true}
+use lib.Signed.{le_z}
+use Rattle.std.proofs.lemmas.Int.{ints}
+use Rattle.book_lines.specs.Values.{IsNumber, IsNumberAt}
+use Rattle.book_lines.specs.Values.Level.{Numbers}
+use Rattle.book_lines.specs.Forms.{AreInOrder}
+
+-- digits begin with no '-'
+no_minus : (digits : List ℕ) → all_ascii_digits (45 ∷ digits) ≡ true → ⊥
+no_minus digits h = false≢true h
+
+-- a text spells one number at most
+pub one_number : (text : List ℕ) (z w : ℤ) → IsNumber text z → IsNumber text w → z ≡ w
+one_number text z w (inl a) (inl b) = let e : a.0 ≡ b.0 = sym a.1.0.is ∙ b.1.0.is in a.1.1 ∙ ap pos e ∙ sym b.1.1
+one_number text z w (inl a) (inr b) = absurd (no_minus b.0 (subst (λ (t : List ℕ). all_ascii_digits t ≡ true) b.1.1.0 a.1.0.digits.digits))
+one_number text z w (inr a) (inl b) = absurd (no_minus a.0 (subst (λ (t : List ℕ). all_ascii_digits t ≡ true) a.1.1.0 b.1.0.digits.digits))
+one_number text z w (inr a) (inr b) =
+    let same : a.0 ≡ b.0 = cc (a.1.1.0, b.1.1.0) in
+    let spelled = a.1.1.1.0.is in
+    let spelled_too = b.1.1.1.0.is in
+    let e : a.1.0 ≡ b.1.0 = cc in
+    a.1.1.1.1 ∙ ap (λ (n : ℕ). neg_ℤ (pos n)) e ∙ sym b.1.1.1.1
+
+pub one_list : (ts : List (List ℕ)) (zs ws : List ℤ) → AllZip (IsNumberAt Numbers) ts zs → AllZip (IsNumberAt Numbers) ts ws → zs ≡ ws
+one_list [] [] [] h k = cc
+one_list [] [] (w ∷ ws) h k = absurd k
+one_list [] (z ∷ zs) ws h k = absurd h
+one_list (t ∷ ts) [] ws h k = absurd h
+one_list (t ∷ ts) (z ∷ zs) [] h k = absurd k
+one_list (t ∷ ts) (z ∷ zs) (w ∷ ws) h k =
+    let head = one_number t z w h.0 k.0 in
+    let tail = one_list ts zs ws h.1 k.1 in
+    cc
+
+-- two numbers in order, and no others
+pub order_known : (t u : List ℕ) (a b : ℤ) → IsNumber t a → IsNumber u b → a ≤ℤ b → AreInOrder t u
+order_known t u a b h k l = λ low high p q. subst (λ (z : ℤ). z ≤ℤ high) (one_number t a low h p) (subst (λ (z : ℤ). a ≤ℤ z) (one_number u b high k q) l)
+
+le_from : (a b : ℤ) → le_z a b ≡ true → a ≤ℤ b
+le_from a b e = grind (arith, ints)
+
+le_to : (a b : ℤ) → a ≤ℤ b → le_z a b ≡ true
+le_to a b l = grind (arith, ints)
+
+-- the test of their order
+pub order_tested : (t u : List ℕ) (a b : ℤ) → IsNumber t a → IsNumber u b → (le_z a b ≡ true → AreInOrder t u) × (AreInOrder t u → le_z a b ≡ true)
+order_tested t u a b h k = (λ e. order_known t u a b h k (le_from a b e), λ o. le_to a b (o a b h k))

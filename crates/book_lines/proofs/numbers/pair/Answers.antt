@@ -1,0 +1,7 @@
+use Rattle.std.proofs.Common.{rules, ◌≡◌, ◌≢◌, ◌<◌, ◌+◌, ◌⊎◌, inl, inr, ℕ, ℤ, List, length, codes, [], ◌∷◌, ◌++◌, refl, take, drop, arith, ap, subst, sym, ◌∙◌, Option, Some, None, true, false, tests}
+use Rattle.book_lines.specs.Lines.{texts, HaveNoColon}
+use Rattle.book_lines.proofs.numbers.pair.Goals as goal
+use Rattle.book_lines.proofs.Pieces.{pair_reads}
+
+pub returns : goal.returns
+returns c = pair_reads _ c.in_ok-x.x.now c.in_ok-x.y.now c.in_ok-x.ensures c.place.result c.place.ensures.place

@@ -1,0 +1,11 @@
+use Rattle.std.proofs.Common.{rules, ◌≡◌, ◌≢◌, ◌<◌, ◌+◌, ◌⊎◌, inl, inr, ℕ, ℤ, List, length, codes, [], ◌∷◌, ◌++◌, refl, take, drop, arith, ap, subst, sym, ◌∙◌, Option, Some, None, true, false, tests}
+use Rattle.book_lines.specs.Lines.{texts, HaveNoColon}
+use Rattle.book_lines.proofs.salvo.is_hand.Goals as goal
+use Rattle.book_lines.proofs.Cutting.{hand_down}
+use Rattle.book_lines.specs.Values.{Level}
+
+pub returns-else-is_none : goal.returns-else-is_none
+returns-else-is_none c = (
+  (λ h. let p = c.is_pair.ensures.0 h in (Some p.0, p.1)),
+  (λ h. c.is_pair.ensures.1 (hand_down _ (λ e. let yes = c.is_none.ensures.1 e in cc (yes, c.if-is_none.false)) Level.Form h.0 h.1)),
+)

@@ -1,0 +1,9 @@
+-- What one line of a book states.
+pub mod Lines
+pub mod Values
+pub mod Forms
+pub mod Statements
+pub mod Faults
+pub mod Reads
+pub mod Cuts
+pub mod Counts

@@ -1,0 +1,22 @@
+//! Lines of a recipe book, one at a time: what a line states, or what is wrong in its form.
+#![tactic(auto)]
+
+mod body;
+pub mod fault;
+pub mod items;
+pub mod keyword;
+pub mod line;
+mod name;
+mod number;
+mod numbers;
+mod placed;
+mod salvo;
+pub mod statement;
+mod turn;
+pub mod words;
+
+pub use fault::{LineError, LineFault};
+pub use keyword::Keyword;
+pub use line::statement_of;
+pub use statement::{Body, ElbowLine, Leaves, Placed, SalvoLine, Spread, Statement, TurnLine};
+pub use words::{is_passed_over, words_of};

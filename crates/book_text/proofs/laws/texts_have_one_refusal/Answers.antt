@@ -1,0 +1,6 @@
+use Rattle.std.proofs.Common.{rules, ◌≡◌, ◌≢◌, ◌<◌, ◌≤◌, ◌+◌, ◌⊎◌, inl, inr, ℕ, ℤ, List, length, [], ◌∷◌, ◌++◌, refl, take, arith, ap, subst, sym, ◌∙◌, Option, Some, None, true, false, tests, map, flat_map}
+use Rattle.book_text.proofs.laws.texts_have_one_refusal.Goals as goal
+use Rattle.book_text.proofs.OneRefusal.{one_refusal}
+
+pub returns : goal.returns
+returns c = one_refusal (record { meaning = c.words_mean_one_plane.ensures; refusal = c.words_have_one_refusal.ensures; none = c.fine_words_have_no_refusal.ensures })

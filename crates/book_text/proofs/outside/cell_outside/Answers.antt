@@ -1,0 +1,16 @@
+use Rattle.std.proofs.Common.{rules, ◌≡◌, ◌≢◌, ◌<◌, ◌≤◌, ◌+◌, ◌⊎◌, inl, inr, ℕ, ℤ, List, length, [], ◌∷◌, ◌++◌, refl, take, arith, ap, subst, sym, ◌∙◌, Option, Some, None, true, false, tests, map, flat_map}
+use Rattle.book_text.proofs.outside.cell_outside.Goals as goal
+use mir.Syntax.{w64}
+use Rattle.std.proofs.Common.{FitsSigned, get_or, pos}
+use Rattle.std.proofs.lemmas.Int.{to_z-of_z}
+use Rattle.std.proofs.lemmas.Bool.{false≢true}
+use Rattle.book_text.specs.Limited.{held, cell_numbers, body_numbers, leaves_numbers, product_numbers, place_numbers, IsWithin, IsFirstOutside}
+use Rattle.book_text.specs.declared.limit.Limit.TheVariants as limit
+use Rattle.book_text.proofs.FirstOutside.{first_append, first_more, first_found_at, first_some_at, none_is, one_each, all_taken}
+
+pub returns : goal.returns
+returns c =
+    let fits_x : FitsSigned w64 c.args.cell.x = search rules in
+    let fits_y : FitsSigned w64 c.args.cell.y = search rules in
+    rw (c.first_found.ensures) (first_append (held limit.Coordinate c.args.cell.x ∷ []) (held limit.Coordinate c.args.cell.y ∷ []) c.outside-x.result c.outside-y.result
+    (rw (to_z-of_z w64 c.args.cell.x fits_x) at c.outside-x.ensures) (rw (to_z-of_z w64 c.args.cell.y fits_y) at c.outside-y.ensures))

@@ -1,0 +1,25 @@
+use Rattle.std.proofs.Common.{rules, ◌≡◌, ◌≢◌, ◌<◌, ◌≤◌, ◌+◌, ◌⊎◌, inl, inr, ℕ, ℤ, List, length, [], ◌∷◌, ◌++◌, refl, take, arith, ap, subst, sym, ◌∙◌, Option, Some, None, true, false, tests, map, flat_map}
+use Rattle.book_text.proofs.outside.cells_outside.Goals as goal
+use mir.Syntax.{w64}
+use Rattle.std.proofs.Common.{FitsSigned, get_or}
+use Rattle.std.proofs.lemmas.Int.{to_z-of_z}
+use Rattle.std.proofs.lemmas.Bool.{false≢true}
+use Rattle.book_text.specs.Limited.{held, cell_numbers, body_numbers, leaves_numbers, product_numbers, place_numbers, IsWithin, IsFirstOutside}
+use Rattle.book_text.specs.declared.limit.Limit.TheVariants as limit
+use Rattle.book_text.proofs.FirstOutside.{first_append, first_more, first_found_at, first_some_at, none_is, one_each, all_taken}
+use Rattle.std.proofs.Common.{pos}
+use Rattle.life_cells.specs.Cells.{cell}
+use Rattle.life_cells.specs.declared.cell.Cell.{Cell}
+
+pub loop-cell-preserved : goal.loop-cell-preserved
+loop-cell-preserved c =
+    first_more cell_numbers c.cells-cell-items.result.now c.loop-cell.cell-index (cell (pos 0) (pos 0)) c.loop-cell-test.true c.loop-cell.invariant (none_is (cell_numbers (get_or c.cells-cell-items.result.now c.loop-cell.cell-index (cell (pos 0) (pos 0)))) c.cell_outside-found.result c.if-is_some.ensures c.cell_outside-found.ensures)
+
+pub returns-then-is_some : goal.returns-then-is_some
+returns-then-is_some c =
+    subst (λ (cs : List Cell). IsFirstOutside (flat_map cell_numbers cs) c.cell_outside-found.result) c.cells-cell-items.ensures.order
+    (first_some_at cell_numbers c.cells-cell-items.result.now c.loop-cell.cell-index (cell (pos 0) (pos 0)) c.cell_outside-found.result c.loop-cell-test.true c.if-is_some.ensures c.loop-cell.invariant c.cell_outside-found.ensures)
+
+pub returns : goal.returns
+returns c =
+    subst (λ (cs : List Cell). IsFirstOutside (flat_map cell_numbers cs) None) (all_taken c.cells-cell-items.result.now c.loop-cell.cell-index c.loop-cell-test.false ∙ c.cells-cell-items.ensures.order) c.loop-cell.invariant

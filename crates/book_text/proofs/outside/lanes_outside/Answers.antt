@@ -1,0 +1,19 @@
+use Rattle.std.proofs.Common.{rules, ◌≡◌, ◌≢◌, ◌<◌, ◌≤◌, ◌+◌, ◌⊎◌, inl, inr, ℕ, ℤ, List, length, [], ◌∷◌, ◌++◌, refl, take, arith, ap, subst, sym, ◌∙◌, Option, Some, None, true, false, tests, map, flat_map}
+use Rattle.book_text.proofs.outside.lanes_outside.Goals as goal
+use mir.Syntax.{w64}
+use Rattle.std.proofs.Common.{FitsSigned, get_or}
+use Rattle.std.proofs.lemmas.Int.{to_z-of_z}
+use Rattle.std.proofs.lemmas.Bool.{false≢true}
+use Rattle.book_text.specs.Limited.{held, cell_numbers, body_numbers, leaves_numbers, product_numbers, place_numbers, IsWithin, IsFirstOutside}
+use Rattle.book_text.specs.declared.limit.Limit.TheVariants as limit
+use Rattle.book_text.proofs.FirstOutside.{first_append, first_more, first_found_at, first_some_at, none_is, one_each, all_taken}
+
+pub returns : goal.returns
+returns c =
+    let s = c.args.lanes in
+    let fits_low : FitsSigned w64 s.low = search rules in
+    let fits_high : FitsSigned w64 s.high = search rules in
+    let fits_len : FitsSigned w64 s.len = search rules in
+    rw (c.first_found-2.ensures, c.first_found.ensures)
+    (first_append (held limit.Coordinate s.low ∷ []) (held limit.Coordinate s.high ∷ (held limit.LanesLength s.len ∷ [])) c.outside-low.result _ (rw (to_z-of_z w64 s.low fits_low) at c.outside-low.ensures)
+    (first_append (held limit.Coordinate s.high ∷ []) (held limit.LanesLength s.len ∷ []) c.outside-high.result c.outside-len.result (rw (to_z-of_z w64 s.high fits_high) at c.outside-high.ensures) (rw (to_z-of_z w64 s.len fits_len) at c.outside-len.ensures)))

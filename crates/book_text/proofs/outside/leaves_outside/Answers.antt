@@ -1,0 +1,24 @@
+use Rattle.std.proofs.Common.{rules, ◌≡◌, ◌≢◌, ◌<◌, ◌≤◌, ◌+◌, ◌⊎◌, inl, inr, ℕ, ℤ, List, length, [], ◌∷◌, ◌++◌, refl, take, arith, ap, subst, sym, ◌∙◌, Option, Some, None, true, false, tests, map, flat_map}
+use Rattle.book_text.proofs.outside.leaves_outside.Goals as goal
+use mir.Syntax.{w64}
+use Rattle.std.proofs.Common.{FitsSigned, get_or, pos}
+use Rattle.std.proofs.lemmas.Int.{to_z-of_z}
+use Rattle.std.proofs.lemmas.Bool.{false≢true}
+use Rattle.book_text.specs.Limited.{held, cell_numbers, body_numbers, leaves_numbers, product_numbers, place_numbers, IsWithin, IsFirstOutside}
+use Rattle.book_text.specs.declared.limit.Limit.TheVariants as limit
+use Rattle.book_text.proofs.FirstOutside.{first_append, first_more, first_found_at, first_some_at, none_is, one_each, all_taken}
+
+pub returns-in-Emit : goal.returns-in-Emit
+returns-in-Emit c =
+    let n = c.args.n in
+    let shift = c.in-Emit.shift in
+    let lane = c.in-Emit.lane in
+    let j = c.in-Emit.j in
+    let fits_shift : FitsSigned w64 shift = search rules in
+    let fits_lane : FitsSigned w64 lane = search rules in
+    let fits_j : FitsSigned w64 j = search rules in
+    let time = rw (to_z-of_z w64 n c.ranges.n) at c.outside-time.ensures in
+    rw (c.in-Emit.is, c.first_found-in-Emit.ensures, c.first_found-before.ensures, c.first_found-glider.ensures)
+    (first_append (held limit.Coordinate shift ∷ (held limit.Time n ∷ [])) (held limit.Coordinate lane ∷ (held limit.Index j ∷ [])) _ _
+    (first_append (held limit.Coordinate shift ∷ []) (held limit.Time n ∷ []) c.outside-in-Emit.result c.outside-time.result (rw (to_z-of_z w64 shift fits_shift) at c.outside-in-Emit.ensures) time)
+    (first_append (held limit.Coordinate lane ∷ []) (held limit.Index j ∷ []) c.outside-in-Emit-2.result c.outside-in-Emit-3.result (rw (to_z-of_z w64 lane fits_lane) at c.outside-in-Emit-2.ensures) (rw (to_z-of_z w64 j fits_j) at c.outside-in-Emit-3.ensures)))

@@ -1,0 +1,16 @@
+use Rattle.std.proofs.Common.{rules, ◌≡◌, ◌≢◌, ◌<◌, ◌≤◌, ◌+◌, ◌⊎◌, inl, inr, ℕ, ℤ, List, length, [], ◌∷◌, ◌++◌, refl, take, arith, ap, subst, sym, ◌∙◌, Option, Some, None, true, false, tests, map, flat_map}
+use Rattle.book_text.proofs.outside.turn_outside.Goals as goal
+use mir.Syntax.{w64}
+use Rattle.std.proofs.Common.{FitsSigned, get_or}
+use Rattle.std.proofs.lemmas.Int.{to_z-of_z}
+use Rattle.std.proofs.lemmas.Bool.{false≢true}
+use Rattle.book_text.specs.Limited.{held, cell_numbers, body_numbers, leaves_numbers, product_numbers, place_numbers, IsWithin, IsFirstOutside}
+use Rattle.book_text.specs.declared.limit.Limit.TheVariants as limit
+use Rattle.book_text.proofs.FirstOutside.{first_append, first_more, first_found_at, first_some_at, none_is, one_each, all_taken}
+
+pub returns : goal.returns
+returns c =
+    let t = c.args.turn.now in
+    let fits : FitsSigned w64 t.n = search rules in
+    rw (c.first_found.ensures) (first_append (leaves_numbers t.leaves t.n) (map (held limit.Delay) t.delays) c.leaves_outside-leaves.result c.numbers_outside-delays.result
+    (rw (to_z-of_z w64 t.n fits) at c.leaves_outside-leaves.ensures) (subst (λ (ds : List ℤ). IsFirstOutside (map (held limit.Delay) ds) c.numbers_outside-delays.result) c.items.ensures c.numbers_outside-delays.ensures))

@@ -1,0 +1,15 @@
+use Rattle.std.proofs.Common.{rules, ◌≡◌, ◌≢◌, ◌<◌, ◌≤◌, ◌+◌, ◌⊎◌, inl, inr, ℕ, ℤ, List, length, [], ◌∷◌, ◌++◌, refl, take, arith, ap, subst, sym, ◌∙◌, Option, Some, None, true, false, tests, map, flat_map}
+use Rattle.book_text.proofs.read.read_lines.Given as goal
+use Rattle.std.specs.Str.Lines.{lines}
+use Rattle.book_text.specs.Stated.{nothing_stated}
+use Rattle.book_text.specs.Reading.{AreFine}
+use Rattle.book_text.specs.Drafted.{stated_of, IsKept}
+
+-- the lines so far are fine
+
+abbrev pub invariant-loop-rest : goal.invariant-loop-rest
+invariant-loop-rest l = (front : List (List ℕ)) × ((lines l.body ≡ front ++ lines l.rest) × (AreFine nothing_stated front (stated_of l.draft)
+    × (IsKept l.draft × ((l.number ≡ l.before + length front) × (l.number + length l.rest ≤ l.before + length l.body)))))
+
+abbrev pub decreases-loop-rest : goal.decreases-loop-rest
+decreases-loop-rest l = length l.rest

@@ -1,0 +1,302 @@
+-- Written lines are fine, one after the other, and the whole text says the book.
+use Rattle.std.proofs.Common.{◌≡◌, ◌≢◌, ℕ, suc, ◌+◌, ◌<◌, ◌≤◌, ◌^◌, ℤ, pos, neg_ℤ, ◌≤ℤ◌, List, [], ◌∷◌, ◌++◌, length, map, refl, sym, ap, ◌∙◌, subst, inl, inr, arith, codes, Some, None, Option, sum_by, IsSome, lit<, zero-add}
+use Rattle.std.specs.List.{AllByRecursion, AllZip}
+use Rattle.std.specs.Str.Lines.{lines}
+use Rattle.std.proofs.lemmas.Int.{ints}
+use Rattle.std.proofs.lemmas.List.{append_assoc, append-nil, length-append, map-append}
+use Rattle.std.proofs.lemmas.List.Sums.{sum_by-append, sum_by-cons}
+use Rattle.life_cells.specs.declared.cell.Cell.{Cell}
+use Rattle.life_cells.specs.Cells.{in_order}
+use Rattle.book_parts.specs.Limits.{IsFrom, AreProper}
+use Rattle.book_parts.specs.Proper.{IsNoneOf, AreDistinct, IsProperEnd, IsProperTurn, IsProperKind, IsProperSalvo, IsProperPlace, IsProperBook}
+use Rattle.book_parts.specs.declared.settings.Settings.{Settings}
+use Rattle.book_parts.specs.declared.kind.RawKind.{RawKind}
+use Rattle.book_parts.specs.declared.turn.RawTurn.{RawTurn}
+use Rattle.book_parts.specs.declared.turn.TurnEnd.{TurnEnd}
+use Rattle.book_parts.specs.declared.turn.TurnEnd.TheVariants as ending
+use Rattle.book_parts.specs.declared.salvo.RawSalvo.{RawSalvo}
+use Rattle.book_parts.specs.declared.book.RawBook.{RawBook}
+use Rattle.book_lines.specs.declared.statement.Body.TheVariants.{Drawn}
+use Rattle.book_lines.specs.declared.statement.Statement.{Statement}
+use Rattle.book_lines.specs.declared.statement.Statement.TheVariants.{Approach, Wall, Reach, Corner, Room, Span, Lanes, Delays, Hand, Elbow, Start, Turn, Salvo}
+use Rattle.book_lines.specs.Counts.{delay_count, lane_count, cell_count}
+use Rattle.book_text.specs.declared.limit.Limit.TheVariants as limit
+use Rattle.book_text.specs.Stated.{Stated, nothing_stated, joined, end_of, turn_of, salvo_of}
+use Rattle.book_text.specs.Limited.{held, leaves_numbers, place_numbers, product_numbers, IsOver, stated_cells}
+use Rattle.book_text.specs.Names.{number_of}
+use Rattle.book_text.specs.Joining.{IsNew, KnowsKinds, kinds_left}
+use Rattle.book_text.specs.Reading.{AreFine}
+use Rattle.book_text.specs.Book.{Said, Says, IsBook}
+use Rattle.book_write.specs.Laid.{line_of}
+use Rattle.book_write.specs.Parts.{version_words, settings_words, IsHandLine, IsKindLine, kind_name, start_words, turn_words, IsSalvoLine}
+use Rattle.book_write.specs.Canonical.{IsBookText}
+use Rattle.book_write.proofs.Visible.{IsWord}
+use Rattle.book_write.proofs.Splitting.{words_are, lines_are}
+use Rattle.book_write.proofs.Numerals.{IsShort, short_from}
+use Rattle.book_write.proofs.Within.{IsHeld, all_both, AreFew, not_over, each_held, body_held}
+use Rattle.book_write.proofs.Stating.{IsLineFor, approach_line, wall_line, reach_line, corner_line, room_line, span_line, lanes_line, delays_line, IsShortRange, short_coordinate, spread_of, hand_line, elbow_of, kind_line, start_line, leaves_of, turn_told, HasNext, turn_line, salvo_told, salvo_line}
+use Rattle.book_write.proofs.Distinct.{none_before, kind_known, name_of_kind}
+
+-- ---- lines behind what is stated
+
+-- these lines, each given by its words, are fine behind what is stated, and this is stated with them
+pub record AreFineFor (a : Stated) (ls : List (List (List ℕ))) (b : Stated) : Type 0 where
+  pub each : AllByRecursion (AllByRecursion IsWord) ls
+  pub fine : AreFine a (map line_of ls) b
+
+no_lines : (a b : Stated) → b ≡ a → AreFineFor a [] b
+no_lines a b e = record { each = tt; fine = e }
+
+line_first : (a b : Stated) (words : List (List ℕ)) (s : Statement) (ls : List (List (List ℕ))) → IsLineFor words s → IsNew a s → KnowsKinds a s → IsOver a s None → AreFineFor (joined a s) ls b → AreFineFor a (words ∷ ls) b
+line_first a b words s ls l new known within rest = record {
+  each = (l.each, rest.each);
+  fine = inr (l.read, (s, (record { states = l.states; new = new; known = known; within = within }, rest.fine)));
+}
+
+fine_both : (a b c : Stated) (ls ms : List (List ℕ)) → AreFine a ls b → AreFine b ms c → AreFine a (ls ++ ms) c
+fine_both a b c [] ms h k = subst (λ (t : Stated). AreFine t ms c) h k
+fine_both a b c (l ∷ ls) ms (inl h) k = inl (h.0, fine_both a b c ls ms h.1 k)
+fine_both a b c (l ∷ ls) ms (inr h) k = inr (h.0, (h.1.0, (h.1.1.0, fine_both (joined a h.1.0) b c ls ms h.1.1.1 k)))
+
+lines_both : (a b c : Stated) (ls ms : List (List (List ℕ))) → AreFineFor a ls b → AreFineFor b ms c → AreFineFor a (ls ++ ms) c
+lines_both a b c ls ms h k = record {
+  each = all_both (AllByRecursion IsWord) ls ms h.each k.each;
+  fine = subst (λ (ts : List (List ℕ)). AreFine a ts c) (sym (map-append line_of ls ms)) (fine_both a b c (map line_of ls) (map line_of ms) h.fine k.fine);
+}
+
+-- ---- settings
+
+-- what is stated with the settings, the hand, and these
+abbrev told : RawBook → List RawKind → Option ℕ → List RawTurn → List RawSalvo → Stated
+told book kinds start turns salvos = record {
+  approach = Some book.settings.approach;
+  wall = Some book.settings.wall;
+  reach = Some book.settings.reach;
+  corner = Some book.settings.corner;
+  room = Some book.settings.room;
+  span = Some book.settings.span;
+  lanes = Some book.settings.lanes;
+  delays = Some book.settings.delays;
+  hand = Some book.hand;
+  kinds = kinds;
+  start = start;
+  turns = turns;
+  salvos = salvos;
+}
+
+near_number : (least greatest z : ℤ) → IsFrom least greatest z → neg_ℤ (pos (2 ^ 40)) ≤ℤ least → greatest ≤ℤ pos (2 ^ 40) → IsShort z
+near_number least greatest z h a b = let low = h.low in let high = h.high in short_from z (omega (arith, ints)) (omega (arith, ints))
+
+reach_held : (s : Settings) → AreProper s → IsFrom (pos 1) (pos 65536) s.reach
+reach_held s p = let low = p.reach.low in let high = p.reach.high in let wall = p.wall.low in record { low = omega (arith, ints); high = high }
+
+lanes_short : (s : Settings) → AreProper s → IsShortRange s.lanes
+lanes_short s p = let few = p.lanes.few in record { low = short_coordinate s.lanes.low p.lanes.low; high = short_coordinate s.lanes.high p.lanes.high; len = omega arith; order = p.lanes.order }
+
+delays_short : (s : Settings) → AreProper s → IsShortRange s.delays
+delays_short s p =
+    let few = p.delays.few in let low = p.delays.low in let order = p.delays.order in let high = p.delays.high in
+    record { low = short_from s.delays.low (omega (arith, ints)) (omega (arith, ints)); high = short_from s.delays.high (omega (arith, ints)) (omega (arith, ints)); len = omega arith; order = order }
+
+-- the lengths of the lists of a range
+len_held : (least most n : ℕ) → least ≤ n → n ≤ most → IsFrom (pos least) (pos most) (pos n)
+len_held least most n a b = record { low = omega (arith, ints); high = omega (arith, ints) }
+
+-- where nothing is counted, nothing is over
+zero_few : (a : Stated) (s : Statement) → length (joined a s).kinds ≡ 0 → length (joined a s).turns ≡ 0 → length (joined a s).salvos ≡ 0 → delay_count s ≡ 0 → lane_count s ≡ 0 → stated_cells a + cell_count s ≡ 0 → AreFew a s
+zero_few a s k t v d l c = record { kinds = omega arith; turns = omega arith; salvos = omega arith; delays = omega arith; lanes = omega arith; cells = omega arith }
+
+-- and where but these cells are counted
+one_few : (a : Stated) (s : Statement) (n : ℕ) → length (joined a s).kinds ≡ 0 → length (joined a s).turns ≡ 0 → length (joined a s).salvos ≡ 0 → delay_count s ≡ 0 → lane_count s ≡ 0 → stated_cells a + cell_count s ≡ n → n ≤ 2 ^ 18 → AreFew a s
+one_few a s n k t v d l c h = record { kinds = omega arith; turns = omega arith; salvos = omega arith; delays = omega arith; lanes = omega arith; cells = omega arith }
+
+hand_few : (book : RawBook) → IsProperBook book → length (in_order book.hand) ≤ 2 ^ 18
+hand_few book p = let few = p.few_cells in omega arith
+
+settings_fine : (book : RawBook) (hand : List (List ℕ)) → IsProperBook book → IsHandLine book.hand hand → AreFineFor nothing_stated (settings_words book.settings ++ (hand ∷ [])) (told book [] None [] [])
+settings_fine book hand p h =
+    let s : Settings = book.settings in
+    let q = p.settings in
+    let cells = hand_few book p in
+    let a1 : Stated = joined nothing_stated (Approach s.approach) in
+    let a2 : Stated = joined a1 (Wall s.wall) in
+    let a3 : Stated = joined a2 (Reach s.reach) in
+    let a4 : Stated = joined a3 (Corner s.corner) in
+    let a5 : Stated = joined a4 (Room s.room) in
+    let a6 : Stated = joined a5 (Span s.span) in
+    let a7 : Stated = joined a6 (Lanes (spread_of s.lanes)) in
+    let a8 : Stated = joined a7 (Delays (spread_of s.delays)) in
+    line_first nothing_stated _ _ (Approach s.approach) _ (approach_line s.approach (near_number (pos 20) (pos 4096) s.approach q.approach.range (omega (arith, ints)) (omega (arith, ints)))) refl tt (not_over nothing_stated (Approach s.approach) (q.approach, tt) (zero_few nothing_stated (Approach s.approach) refl refl refl refl refl refl))
+    (line_first a1 _ _ (Wall s.wall) _ (wall_line s.wall (near_number (pos 1) (pos 4096) s.wall q.wall (omega (arith, ints)) (omega (arith, ints)))) refl tt (not_over a1 (Wall s.wall) (q.wall, tt) (zero_few a1 (Wall s.wall) refl refl refl refl refl refl))
+    (line_first a2 _ _ (Reach s.reach) _ (reach_line s.reach (near_number (pos 1) (pos 65536) s.reach (reach_held s q) (omega (arith, ints)) (omega (arith, ints)))) refl tt (not_over a2 (Reach s.reach) (reach_held s q, tt) (zero_few a2 (Reach s.reach) refl refl refl refl refl refl))
+    (line_first a3 _ _ (Corner s.corner) _ (corner_line s.corner (short_coordinate s.corner.x q.corner_x) (short_coordinate s.corner.y q.corner_y)) refl tt (not_over a3 (Corner s.corner) (q.corner_x, (q.corner_y, tt)) (zero_few a3 (Corner s.corner) refl refl refl refl refl refl))
+    (line_first a4 _ _ (Room s.room) _ (room_line s.room (near_number (pos 0) (pos 512) s.room q.room (omega (arith, ints)) (omega (arith, ints)))) refl tt (not_over a4 (Room s.room) (q.room, tt) (zero_few a4 (Room s.room) refl refl refl refl refl refl))
+    (line_first a5 _ _ (Span s.span) _ (span_line s.span (near_number (pos 0) (pos (2 ^ 27)) s.span q.span (omega (arith, ints)) (omega (arith, ints)))) refl tt (not_over a5 (Span s.span) (q.span, tt) (zero_few a5 (Span s.span) refl refl refl refl refl refl))
+    (line_first a6 _ _ (Lanes (spread_of s.lanes)) _ (lanes_line s.lanes (lanes_short s q)) refl tt (not_over a6 (Lanes (spread_of s.lanes)) (q.lanes.low, (q.lanes.high, (len_held 1 64 s.lanes.len q.lanes.some q.lanes.few, tt))) (zero_few a6 (Lanes (spread_of s.lanes)) refl refl refl refl refl refl))
+    (line_first a7 _ _ (Delays (spread_of s.delays)) _ (delays_line s.delays (delays_short s q)) refl tt (not_over a7 (Delays (spread_of s.delays)) (q.delays.low, (q.delays.high, (len_held 0 63 s.delays.len (omega arith) q.delays.few, tt))) (zero_few a7 (Delays (spread_of s.delays)) refl refl refl refl refl refl))
+    (line_first a8 _ _ (Hand (Drawn book.hand)) _ (hand_line book.hand hand h p.hand cells) refl tt (not_over a8 (Hand (Drawn book.hand)) (body_held book.hand p.hand.placed) (one_few a8 (Hand (Drawn book.hand)) (length (in_order book.hand)) refl refl refl refl refl (zero-add (length (in_order book.hand))) cells))
+    (no_lines _ _ refl)))))))))
+
+-- ---- kinds
+
+kinds_fine : (book : RawBook) → IsProperBook book → (front back : List RawKind) (ls : List (List (List ℕ))) → book.kinds.items ≡ front ++ back → AllByRecursion IsProperKind back → AllZip IsKindLine back ls
+    → AreFineFor (told book front None [] []) ls (told book book.kinds.items None [] [])
+kinds_fine book p front [] [] e h z = no_lines _ _ (ap (λ (ks : List RawKind). told book ks None [] []) (e ∙ append-nil front))
+kinds_fine book p front [] (words ∷ ls) e h z = absurd z
+kinds_fine book p front (kind ∷ back) [] e h z = absurd z
+kinds_fine book p front (kind ∷ back) (words ∷ ls) e h z =
+    let many : List RawKind → ℕ = sum_by (λ (k : RawKind). length (in_order k.cells)) in
+    let total = p.few_cells in
+    let parts : many book.kinds.items ≡ many front + (length (in_order kind.cells) + many back) = ap many e ∙ sum_by-append (λ (k : RawKind). length (in_order k.cells)) front (kind ∷ back) ∙ ap (λ (n : ℕ). many front + n) (sum_by-cons (λ (k : RawKind). length (in_order k.cells)) kind back) in
+    let few_kinds = p.few_kinds in
+    let size : length book.kinds.items ≡ length front + suc (length back) = ap length e ∙ length-append front (kind ∷ back) in
+    let size_on : length (front ++ (kind ∷ [])) ≡ length front + 1 = length-append front (kind ∷ []) in
+    let r = kind_line kind words z.0 h.0 (omega arith) in
+    let names = ap (map (λ (k : RawKind). k.name)) e ∙ map-append (λ (k : RawKind). k.name) front (kind ∷ back) in
+    line_first (told book front None [] []) _ words (Elbow (elbow_of kind r.box)) ls r.line
+    (none_before (map (λ (k : RawKind). k.name) front) kind.name (map (λ (k : RawKind). k.name) back) (subst AreDistinct names p.kind_names)) tt
+    (not_over (told book front None [] []) (Elbow (elbow_of kind r.box)) r.held_all (record { kinds = omega arith; turns = omega arith; salvos = omega arith; delays = omega arith; lanes = omega arith; cells = omega arith }))
+    (kinds_fine book p (front ++ (kind ∷ [])) back ls (e ∙ sym (append_assoc front (kind ∷ []) back)) h.1 z.1)
+
+-- ---- the start
+
+start_fine : (book : RawBook) → IsProperBook book → AreFineFor (told book book.kinds.items None [] []) (start_words book.kinds.items book.start ∷ []) (told book book.kinds.items (Some book.start) [] [])
+start_fine book p =
+    let kinds : List RawKind = book.kinds.items in
+    let name = kind_name kinds book.start in
+    let known = kind_known kinds book.start p.start p.kind_names in
+    let total = p.few_cells in
+    let few_kinds = p.few_kinds in
+    line_first (told book kinds None [] []) _ (start_words kinds book.start) (Start name) [] (start_line name (name_of_kind kinds book.start p.start p.kinds)) refl (known.known, tt)
+    (not_over (told book kinds None [] []) (Start name) tt (record { kinds = few_kinds; turns = omega arith; salvos = omega arith; delays = omega arith; lanes = omega arith; cells = omega arith }))
+    (no_lines _ _ (ap (λ (k : ℕ). told book kinds (Some k) [] []) (sym known.number)))
+
+-- ---- turns
+
+next_named : (kinds : List RawKind) (end : TurnEnd) → IsProperEnd (length kinds) end → AllByRecursion IsProperKind kinds → HasNext kinds end
+next_named kinds ending.Close p each = tt
+next_named kinds (ending.Move kind shift) p each = name_of_kind kinds kind p.0 each
+next_named kinds (ending.Emit kind shift lane j) p each = name_of_kind kinds kind p.0 each
+
+next_known : (kinds : List RawKind) (end : TurnEnd) → IsProperEnd (length kinds) end → AreDistinct (map (λ (k : RawKind). k.name) kinds) → AllByRecursion (λ name. IsSome (number_of kinds name)) (kinds_left (leaves_of kinds end))
+next_known kinds ending.Close p d = tt
+next_known kinds (ending.Move kind shift) p d = ((kind_known kinds kind p.0 d).known, tt)
+next_known kinds (ending.Emit kind shift lane j) p d = ((kind_known kinds kind p.0 d).known, tt)
+
+end_back : (kinds : List RawKind) (end : TurnEnd) → IsProperEnd (length kinds) end → AreDistinct (map (λ (k : RawKind). k.name) kinds) → end_of kinds (leaves_of kinds end) ≡ end
+end_back kinds ending.Close p d = refl
+end_back kinds (ending.Move kind shift) p d = ap (λ (k : ℕ). ending.Move k shift) (kind_known kinds kind p.0 d).number
+end_back kinds (ending.Emit kind shift lane j) p d = ap (λ (k : ℕ). ending.Emit k shift lane j) (kind_known kinds kind p.0 d).number
+
+turn_back : (kinds : List RawKind) (turn : RawTurn) → IsProperTurn (length kinds) turn → AreDistinct (map (λ (k : RawKind). k.name) kinds) → turn_of kinds (turn_told kinds turn) ≡ turn
+turn_back kinds turn p d =
+    let kind = (kind_known kinds turn.kind p.kind d).number in
+    let end = end_back kinds turn.end p.leaves d in
+    λ i. record { name = turn.name; kind = kind i; end = end i; n = turn.n; delays = turn.delays }
+
+ending_held : (kinds : List RawKind) (end : TurnEnd) (n : ℕ) → IsProperEnd (length kinds) end → n ≤ 65536 → AllByRecursion IsHeld (leaves_numbers (leaves_of kinds end) (pos n))
+ending_held kinds ending.Close n p h = (len_held 0 65536 n (omega arith) h, tt)
+ending_held kinds (ending.Move kind shift) n p h = (p.1, (len_held 0 65536 n (omega arith) h, tt))
+ending_held kinds (ending.Emit kind shift lane j) n p h = (p.1.0, (len_held 0 65536 n (omega arith) h, (p.1.1.0, (p.1.1.1, tt))))
+
+turns_fine : (book : RawBook) → IsProperBook book → (front back : List RawTurn) → book.turns.items ≡ front ++ back → AllByRecursion (IsProperTurn (length book.kinds.items)) back
+    → AreFineFor (told book book.kinds.items (Some book.start) front []) (map (turn_words book.kinds.items) back) (told book book.kinds.items (Some book.start) book.turns.items [])
+turns_fine book p front [] e h = no_lines _ _ (ap (λ (ts : List RawTurn). told book book.kinds.items (Some book.start) ts []) (e ∙ append-nil front))
+turns_fine book p front (turn ∷ back) e h =
+    let kinds : List RawKind = book.kinds.items in
+    let a = told book kinds (Some book.start) front [] in
+    let s = Turn (turn_told kinds turn) in
+    let total = p.few_cells in
+    let few_kinds = p.few_kinds in
+    let few_turns = p.few_turns in
+    let few_delays = h.0.few in
+    let size : length book.turns.items ≡ length front + suc (length back) = ap length e ∙ length-append front (turn ∷ back) in
+    let size_on : length (front ++ (turn_of kinds (turn_told kinds turn) ∷ [])) ≡ length front + 1 = length-append front (turn_of kinds (turn_told kinds turn) ∷ []) in
+    let name = λ (t : RawTurn). t.name in
+    let names = ap (λ (ns : List (List ℕ)). ns ++ map (λ (salvo : RawSalvo). salvo.name) book.salvos.items) (ap (map name) e ∙ map-append name front (turn ∷ back)) ∙ append_assoc (map name front) (turn.name ∷ map name back) (map (λ (salvo : RawSalvo). salvo.name) book.salvos.items) in
+    let new = none_before (map name front) turn.name (map name back ++ map (λ (salvo : RawSalvo). salvo.name) book.salvos.items) (subst AreDistinct names p.names) in
+    line_first a _ (turn_words kinds turn) s (map (turn_words kinds) back) (turn_line kinds turn h.0 (name_of_kind kinds turn.kind h.0.kind p.kinds) (next_named kinds turn.end h.0.leaves p.kinds))
+    (subst (λ (ns : List (List ℕ)). IsNoneOf ns turn.name) (sym (append-nil (map name front))) new)
+    ((kind_known kinds turn.kind h.0.kind p.kind_names).known, next_known kinds turn.end h.0.leaves p.kind_names)
+    (not_over a s (all_both IsHeld (leaves_numbers (leaves_of kinds turn.end) (pos turn.n)) (map (held limit.Delay) turn.delays) (ending_held kinds turn.end turn.n h.0.leaves h.0.short) (each_held limit.Delay turn.delays h.0.delays))
+    (record { kinds = few_kinds; turns = omega arith; salvos = omega arith; delays = few_delays; lanes = omega arith; cells = omega arith }))
+    (subst (λ (t : RawTurn). AreFineFor (told book kinds (Some book.start) (front ++ (t ∷ [])) []) (map (turn_words kinds) back) (told book kinds (Some book.start) book.turns.items [])) (sym (turn_back kinds turn h.0 p.kind_names))
+    (turns_fine book p (front ++ (turn ∷ [])) back (e ∙ sym (append_assoc front (turn ∷ []) back)) h.1))
+
+-- ---- salvos
+
+hand_held : (hand : Option Cell) → IsProperPlace hand → AllByRecursion IsHeld (place_numbers hand)
+hand_held None h = tt
+hand_held (Some place) h = (h.0, (h.1, tt))
+
+salvos_fine : (book : RawBook) → IsProperBook book → (front back : List RawSalvo) (ls : List (List (List ℕ))) → book.salvos.items ≡ front ++ back → AllByRecursion IsProperSalvo back → AllZip IsSalvoLine back ls
+    → AreFineFor (told book book.kinds.items (Some book.start) book.turns.items front) ls (told book book.kinds.items (Some book.start) book.turns.items book.salvos.items)
+salvos_fine book p front [] [] e h z = no_lines _ _ (ap (λ (ss : List RawSalvo). told book book.kinds.items (Some book.start) book.turns.items ss) (e ∙ append-nil front))
+salvos_fine book p front [] (words ∷ ls) e h z = absurd z
+salvos_fine book p front (salvo ∷ back) [] e h z = absurd z
+salvos_fine book p front (salvo ∷ back) (words ∷ ls) e h z =
+    let many : List RawSalvo → ℕ = sum_by (λ (v : RawSalvo). length (in_order v.product)) in
+    let a = told book book.kinds.items (Some book.start) book.turns.items front in
+    let total = p.few_cells in
+    let parts : many book.salvos.items ≡ many front + (length (in_order salvo.product) + many back) = ap many e ∙ sum_by-append (λ (v : RawSalvo). length (in_order v.product)) front (salvo ∷ back) ∙ ap (λ (n : ℕ). many front + n) (sum_by-cons (λ (v : RawSalvo). length (in_order v.product)) salvo back) in
+    let few_kinds = p.few_kinds in
+    let few_turns = p.few_turns in
+    let few_salvos = p.few_salvos in
+    let few_lanes = h.0.few in
+    let size : length book.salvos.items ≡ length front + suc (length back) = ap length e ∙ length-append front (salvo ∷ back) in
+    let r = salvo_line salvo words z.0 h.0 (omega arith) in
+    let s = Salvo (salvo_told salvo r.product) in
+    let count = r.count in
+    let size_on : length (front ++ (salvo_of (salvo_told salvo r.product) ∷ [])) ≡ length front + 1 = length-append front (salvo_of (salvo_told salvo r.product) ∷ []) in
+    let same : salvo_of (salvo_told salvo r.product) ≡ salvo = (λ i. record { name = salvo.name; lanes = salvo.lanes; product = r.same i; hand = salvo.hand }) in
+    let name = λ (v : RawSalvo). v.name in
+    let turn_names = map (λ (t : RawTurn). t.name) book.turns.items in
+    let names = ap (λ (ns : List (List ℕ)). turn_names ++ ns) (ap (map name) e ∙ map-append name front (salvo ∷ back)) ∙ sym (append_assoc turn_names (map name front) (salvo.name ∷ map name back)) in
+    line_first a _ words s ls r.line (none_before (turn_names ++ map name front) salvo.name (map name back) (subst AreDistinct names p.names)) tt
+    (not_over a s (all_both IsHeld (map (held limit.Coordinate) salvo.lanes) (product_numbers r.product ++ place_numbers salvo.hand) (each_held limit.Coordinate salvo.lanes h.0.lanes) (all_both IsHeld (product_numbers r.product) (place_numbers salvo.hand) r.held_all (hand_held salvo.hand h.0.hand)))
+    (record { kinds = few_kinds; turns = few_turns; salvos = omega arith; delays = omega arith; lanes = few_lanes; cells = omega arith }))
+    (subst (λ (v : RawSalvo). AreFineFor (told book book.kinds.items (Some book.start) book.turns.items (front ++ (v ∷ []))) ls (told book book.kinds.items (Some book.start) book.turns.items book.salvos.items)) (sym same)
+    (salvos_fine book p (front ++ (salvo ∷ [])) back ls (e ∙ sym (append_assoc front (salvo ∷ []) back)) h.1 z.1))
+
+-- ---- the whole text
+
+-- what a book says
+abbrev said_of : RawBook → Said
+said_of book = record { settings = book.settings; hand = book.hand; kinds = book.kinds.items; start = book.start; turns = book.turns.items; salvos = book.salvos.items }
+
+version_each : AllByRecursion IsWord version_words
+version_each = (record { some = lit< tt; bytes = refl }, (record { some = lit< tt; bytes = refl }, tt))
+
+some_kinds : (kinds : List RawKind) → 0 < length kinds → kinds ≢ []
+some_kinds kinds some e = absurd (omega (arith, ap length e))
+
+-- a book's canonical text says the book
+pub book_reads_back : (book : RawBook) (text : List ℕ) → IsProperBook book → IsBookText book text → (said : Said) × (Says text said × IsBook said book)
+book_reads_back book text p t =
+    let kinds : List RawKind = book.kinds.items in
+    let start = start_words kinds book.start in
+    let turns = map (turn_words kinds) book.turns.items in
+    let end = told book kinds (Some book.start) book.turns.items book.salvos.items in
+    let entries = lines_both _ _ end turns t.salvos (turns_fine book p [] book.turns.items refl p.turns) (salvos_fine book p [] book.salvos.items t.salvos refl p.salvos t.salvos_are) in
+    let started = lines_both _ _ end (start ∷ []) (turns ++ t.salvos) (start_fine book p) entries in
+    let from_kinds = lines_both _ _ end t.kinds (start ∷ (turns ++ t.salvos)) (kinds_fine book p [] kinds t.kinds refl p.kinds t.kinds_are) started in
+    let behind = t.kinds ++ (start ∷ (turns ++ t.salvos)) in
+    let all = lines_both _ _ end (settings_words book.settings ++ (t.hand ∷ [])) behind (settings_fine book t.hand p t.hand_is) from_kinds in
+    let body = settings_words book.settings ++ (t.hand ∷ behind) in
+    let fine = subst (λ (ls : List (List (List ℕ))). AreFineFor nothing_stated ls end) (append_assoc (settings_words book.settings) (t.hand ∷ []) behind) all in
+    let lines_of_text : lines text ≡ line_of version_words ∷ map line_of body = ap lines t.whole ∙ lines_are (version_words ∷ body) (version_each, fine.each) in
+    let version = words_are (codes "scbook") (codes "1" ∷ []) version_each.0 version_each.1 in (
+      said_of book,
+      (
+        record {
+          read = record {
+            number = 1;
+            body = map line_of body;
+            begun = record { head = []; version = line_of version_words; lines_are = lines_of_text; head_is = tt; version_is = version; number_is = refl };
+            fine = fine.fine;
+          };
+          some_kind = some_kinds kinds p.some_kind;
+        },
+        record { settings = refl; hand = refl; kinds = refl; start = refl; turns = refl; salvos = refl },
+      ),
+    )

@@ -1,0 +1,17 @@
+-- Lemmas of the writer's parts.
+pub mod Laying
+pub mod Numbering
+pub mod Moving
+-- Lemmas of what is read back.
+pub mod Visible
+pub mod FirstLine
+pub mod Splitting
+pub mod Numerals
+pub mod BodyWords
+pub mod Within
+pub mod Stating
+pub mod Distinct
+pub mod Following
+pub mod OneWriting
+-- Lemmas of the tests.
+pub mod Sampling

@@ -1,0 +1,61 @@
+-- What is written is within the limits.
+use Rattle.std.proofs.Common.{◌≡◌, ℕ, ◌+◌, ◌≤◌, ◌^◌, true, ℤ, pos, ◌≤ℤ◌, List, [], ◌∷◌, ◌++◌, length, map, refl, ap, ◌∙◌, inl, arith, None}
+use Rattle.std.specs.List.{AllByRecursion, flat_map}
+use Rattle.std.proofs.lemmas.Int.{ints}
+use Rattle.life_plane.specs.Plane.{Plane}
+use Rattle.life_cells.specs.declared.cell.Cell.{Cell}
+use Rattle.life_cells.specs.Cells.{Cells, alive, in_order}
+use Rattle.life_cells.specs.Laws.{alive-in_order}
+use Rattle.life_rle.proofs.Growing.{each_listed}
+use Rattle.book_parts.specs.Limits.{IsCoordinate, IsPlaced}
+use Rattle.book_lines.specs.declared.statement.Statement.{Statement}
+use Rattle.book_lines.specs.Counts.{delay_count, lane_count, cell_count}
+use Rattle.book_text.specs.declared.limit.Limit.{Limit}
+use Rattle.book_text.specs.Stated.{Stated, joined}
+use Rattle.book_text.specs.Limited.{IsWithin, Limited, held, cell_numbers, numbers, counts, stated_cells, IsFirstOutside, IsOver}
+
+abbrev pub IsHeld : Limited → Type 0
+IsHeld n = IsWithin n.limit n.number
+
+pub all_both : {X : Type 0} (P : X → Type 0) (xs ys : List X) → AllByRecursion P xs → AllByRecursion P ys → AllByRecursion P (xs ++ ys)
+all_both P [] ys h k = k
+all_both P (x ∷ xs) ys h k = (h.0, all_both P xs ys h.1 k)
+
+none_outside : (ns : List Limited) → AllByRecursion IsHeld ns → IsFirstOutside ns None
+none_outside [] h = refl
+none_outside (n ∷ ns) h = inl (h.0, none_outside ns h.1)
+
+counted : (n most : ℕ) → n ≤ most → pos n ≤ℤ pos most
+counted n most h = omega (arith, ints)
+
+-- the counts with a line
+pub record AreFew (stated : Stated) (s : Statement) : Type 0 where
+  pub kinds : length (joined stated s).kinds ≤ 256
+  pub turns : length (joined stated s).turns ≤ 1024
+  pub salvos : length (joined stated s).salvos ≤ 4096
+  pub delays : delay_count s ≤ 64
+  pub lanes : lane_count s ≤ 64
+  pub cells : stated_cells stated + cell_count s ≤ 2 ^ 18
+
+pub not_over : (stated : Stated) (s : Statement) → AllByRecursion IsHeld (numbers s) → AreFew stated s → IsOver stated s None
+not_over stated s h few =
+    none_outside (numbers s ++ counts stated s)
+    (all_both IsHeld (numbers s) (counts stated s) h
+    (counted _ 256 few.kinds, (counted _ 1024 few.turns, (counted _ 4096 few.salvos, (counted _ 64 few.delays, (counted _ 64 few.lanes, (counted _ (2 ^ 18) few.cells, tt)))))))
+
+-- ---- the numbers of bodies
+
+flat_held : (cs : List Cell) → AllByRecursion (λ (c : Cell). IsCoordinate c.x × IsCoordinate c.y) cs → AllByRecursion IsHeld (flat_map cell_numbers cs)
+flat_held [] h = tt
+flat_held (c ∷ cs) h = (h.0.0, (h.0.1, flat_held cs h.1))
+
+pub body_held : (s : Cells) → IsPlaced (alive s) → AllByRecursion IsHeld (flat_map cell_numbers (in_order s))
+body_held s p =
+    flat_held (in_order s) (each_listed (λ (c : Cell). IsCoordinate c.x × IsCoordinate c.y) (in_order s)
+    (λ c l. let lives : alive s c.x c.y ≡ true = ap (λ (q : Plane). q c.x c.y) (alive-in_order s) ∙ l in (p.x c.x c.y lives, p.y c.x c.y lives)))
+
+-- ---- lists of numbers
+
+pub each_held : (l : Limit) (zs : List ℤ) → AllByRecursion (IsWithin l) zs → AllByRecursion IsHeld (map (held l) zs)
+each_held l [] h = tt
+each_held l (z ∷ zs) h = (h.0, each_held l zs h.1)

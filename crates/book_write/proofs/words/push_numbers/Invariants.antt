@@ -1,0 +1,8 @@
+-- The numbers before the index are written.
+use Rattle.std.proofs.Common.{◌≡◌, ◌++◌, map, take}
+use Rattle.std.specs.Fmt.{signed_decimal}
+use Rattle.book_write.specs.Laid.{spaced}
+use Rattle.book_write.proofs.words.push_numbers.Given as goal
+
+abbrev pub invariant-loop-number : goal.invariant-loop-number
+invariant-loop-number l = l.text.items ≡ l.initial.text.items ++ spaced (map signed_decimal (take l.number-index l.numbers))

@@ -1,0 +1,5 @@
+-- The one text that is written for a book.
+pub mod Laid
+pub mod Parts
+pub mod Canonical
+pub mod Samples

@@ -1,0 +1,22 @@
+use Rattle.std.proofs.Common.{arith}
+use Rattle.std.proofs.lemmas.Int.{ints}
+use Rattle.recipe_book.proofs.tests.settings_of.Goals as goal
+
+pub returns : goal.returns
+returns g c = record {
+  approach = record { range = record { low = omega (arith, ints); high = omega (arith, ints) }; quarters = c.args.quarters; multiple = omega (arith, ints) };
+  wall = record { low = omega (arith, ints); high = omega (arith, ints) };
+  reach = record { low = omega (arith, ints); high = omega (arith, ints) };
+  corner_x = record { low = omega (arith, ints); high = omega (arith, ints) };
+  corner_y = record { low = omega (arith, ints); high = omega (arith, ints) };
+  room = record { low = omega (arith, ints); high = omega (arith, ints) };
+  span = record { low = omega (arith, ints); high = omega (arith, ints) };
+  lanes = record {
+    low = record { low = omega (arith, ints); high = omega (arith, ints) };
+    high = record { low = omega (arith, ints); high = omega (arith, ints) };
+    order = omega (arith, ints);
+    some = omega arith;
+    few = omega arith;
+  };
+  delays = record { low = omega (arith, ints); order = omega (arith, ints); high = omega (arith, ints); few = omega arith };
+}
