@@ -23,7 +23,7 @@ use Rattle.book_lines.specs.declared.statement.Body.TheVariants.{Drawn, TooMany}
 use Rattle.book_lines.specs.Values.{IsSmall, Draws, HasLiveCell, IsBodyAt}
 use Rattle.book_lines.specs.Values.Level.{Form, Numbers, Bodies, Whole}
 use Rattle.book_lines.specs.Faults.{StopsBetween}
-use Rattle.book_lines.proofs.Digits.{value_short}
+use Rattle.rle_items.specs.NumberLaws.{value_short}
 
 abbrev pub OneMeaning : Type 0
 OneMeaning = (word : List ℕ) (s t : Plane) → WordMeans word s → WordMeans word t → s ≡ t

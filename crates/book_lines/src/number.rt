@@ -1,15 +1,13 @@
 //! Numbers in a line.
 
-ghost use Rattle.std.specs.Prelude.{◌≡◌, ◌<◌, ◌≤◌, ◌^◌, true, length, IfSome};
+ghost use Rattle.std.specs.Prelude.{◌≡◌, ◌<◌, ◌^◌, IfSome};
 ghost use Rattle.std.specs.Char.{is_ascii_digit};
 ghost use Rattle.std.specs.List.{list_all};
-ghost use Rattle.std.specs.Str.{all_ascii_digits};
-ghost use Rattle.rle_items.specs.Numbers.{value, IsNatural};
+ghost use Rattle.rle_items.specs.Numbers.{IsNatural};
 ghost use Rattle.book_lines.specs.Values.{IsNumber, IsSmall};
 ghost use Rattle.book_lines.specs.Reads.{Reads};
 
-/// The most digits of a number.
-const MOST_DIGITS: usize = 18;
+use rle_items::digits::{MOST_DIGITS, number_of};
 
 /// The number that a field spells: an optional '-' and from 1 to 18 digits.
 pub fn number(field: &[u8]) -> Option<i64>
@@ -33,7 +31,7 @@ fn natural(digits: &[u8]) -> Option<u64>
     if !are_digits(digits) {
         return None;
     }
-    Some(value_of(digits))
+    Some(number_of(digits))
 }
 
 /// Whether each byte is a digit.
@@ -41,18 +39,4 @@ fn are_digits(bytes: &[u8]) -> bool
     ensures { result ≡ list_all is_ascii_digit bytes.now }
 {
     bytes.iter().all(|b| b.is_ascii_digit())
-}
-
-/// The value of digits.
-fn value_of(digits: &[u8]) -> u64
-    requires digits { all_ascii_digits digits.now ≡ true }
-    requires short { length digits.now ≤ 18 }
-    ensures value { result ≡ value digits.now }
-    ensures small { result < 10 ^ 18 }
-{
-    let mut number = 0;
-    for digit in digits {
-        number = number * 10 + u64::from(*digit - b'0');
-    }
-    number
 }
