@@ -1,11 +1,11 @@
 -- Lines are cut into parts in one way.
-use Rattle.std.proofs.Common.{◌≡◌, ◌≢◌, ℕ, ◌<◌, ◌^◌, ℤ, pos, List, [], ◌∷◌, ◌++◌, length, codes, inl, inr, true, false, Option, Some, None, refl, sym, ap, ◌∙◌, subst, arith}
+use Rattle.std.proofs.Common.{◌≡◌, ◌≢◌, ℕ, ℤ, pos, List, [], ◌∷◌, ◌++◌, length, codes, true, Option, Some, None, refl, sym, ap, subst, arith}
 use Rattle.std.proofs.lemmas.Bool.{false≢true}
 use Rattle.life_cells.specs.Cells.{cell}
 use Rattle.life_cells.specs.declared.cell.Cell.{Cell}
-use Rattle.book_parts.specs.Limits.{IsName, is_name_byte, begins_with_letter}
+use Rattle.book_parts.specs.Limits.{IsName, begins_with_letter}
 use Rattle.book_lines.specs.declared.statement.Body.{Body}
-use Rattle.book_lines.specs.declared.statement.Body.TheVariants.{Drawn, TooMany}
+use Rattle.book_lines.specs.declared.statement.Body.TheVariants.{TooMany}
 use Rattle.book_lines.specs.declared.statement.Placed.{Placed}
 use Rattle.book_lines.specs.declared.statement.Leaves.{Leaves}
 use Rattle.book_lines.specs.declared.statement.Leaves.TheVariants.{Close, Move, Emit}
@@ -13,7 +13,7 @@ use Rattle.book_lines.specs.declared.statement.ElbowLine.{ElbowLine}
 use Rattle.book_lines.specs.declared.statement.TurnLine.{TurnLine}
 use Rattle.book_lines.specs.declared.statement.SalvoLine.{SalvoLine}
 use Rattle.book_lines.specs.Lines.{HaveNoColon}
-use Rattle.book_lines.specs.Values.{Level, IsNumber, AreNumbersAt, IsBodyAt}
+use Rattle.book_lines.specs.Values.{Level, IsNumber, IsBodyAt}
 use Rattle.book_lines.specs.Values.Level.{Form, Numbers, Bodies, Whole}
 use Rattle.book_lines.specs.Forms.{IsOneNumber, IsPair, IsBody, IsPlacedBody, IsElbowLine, IsStep, IsEnding, IsTurnLine, IsProduct, IsHand, IsSalvoLine}
 use Rattle.book_lines.specs.Cuts.{IsMove, IsEmit, IsTurnCut, IsSalvoCut}

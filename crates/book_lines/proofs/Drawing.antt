@@ -1,11 +1,11 @@
 -- Bodies that are drawn, and those that are not.
-use Rattle.std.proofs.Common.{◌≡◌, ◌≢◌, ℕ, ◌+◌, ◌<◌, ◌≤◌, ◌^◌, Bool, true, false, ℤ, pos, neg_ℤ, ◌+ℤ◌, ◌-ℤ◌, ◌≤ℤ◌, FitsSigned, negsuc, List, [], ◌∷◌, ◌++◌, length, if◌then◌else◌, refl, sym, ap, ◌∙◌, subst, arith, codes}
+use Rattle.std.proofs.Common.{◌≡◌, ◌≢◌, ℕ, ◌≤◌, ◌^◌, Bool, true, false, ℤ, pos, ◌+ℤ◌, ◌-ℤ◌, FitsSigned, negsuc, List, [], ◌∷◌, if◌then◌else◌, refl, sym, ap, ◌∙◌, arith, codes}
 use mir.Syntax.{w64}
 use Rattle.std.proofs.lemmas.Int.{ints}
 use Rattle.std.proofs.lemmas.Bool.{false≢true, or_left}
 use Rattle.std.proofs.lemmas.List.{append-nil}
 use Rattle.std.proofs.lemmas.List.Sums.{sum_by_push}
-use Rattle.life_plane.specs.Plane.{Plane, nothing, shift, same_plane}
+use Rattle.life_plane.specs.Plane.{Plane, nothing, shift}
 use Rattle.life_cells.specs.declared.cell.Cell.{Cell}
 use Rattle.life_cells.specs.Cells.{Cells, alive, empty, in_order, from_list}
 use Rattle.life_cells.specs.Laws.{alive-empty, alive-in_order_at, from_list-in_order, from_list-none}
@@ -20,8 +20,8 @@ use Rattle.rle_items.specs.Words.{WordMeans}
 use Rattle.rle_items.specs.Faults.{IsFineWord, StopsWith}
 use Rattle.book_lines.specs.declared.statement.Body.{Body}
 use Rattle.book_lines.specs.declared.statement.Body.TheVariants.{Drawn, TooMany}
-use Rattle.book_lines.specs.Values.{IsSmall, Draws, HasLiveCell, IsBodyAt}
-use Rattle.book_lines.specs.Values.Level.{Form, Numbers, Bodies, Whole}
+use Rattle.book_lines.specs.Values.{IsSmall, IsBodyAt}
+use Rattle.book_lines.specs.Values.Level.{Numbers, Bodies, Whole}
 use Rattle.book_lines.specs.Faults.{StopsBetween}
 use Rattle.rle_items.specs.NumberLaws.{value_short}
 

@@ -1,5 +1,5 @@
 -- What is stated as far as one level looks is stated as far as another does.
-use Rattle.std.proofs.Common.{◌≡◌, ◌≢◌, ℕ, ◌<◌, ◌+◌, ℤ, List, [], ◌∷◌, ◌++◌, length, codes, suc, inl, inr, true, false, Option, Some, None, refl, sym, ap, ◌∙◌, subst, arith}
+use Rattle.std.proofs.Common.{◌≡◌, ◌≢◌, ℕ, ◌+◌, ℤ, List, [], ◌∷◌, ◌++◌, length, codes, suc, inl, inr, true, Option, Some, None, sym, ap, ◌∙◌, subst, arith}
 use Rattle.std.specs.List.{AllZip}
 use Rattle.std.specs.Str.{all_ascii_digits}
 use Rattle.std.proofs.lemmas.Bool.{false≢true}
@@ -21,9 +21,9 @@ use Rattle.book_lines.specs.declared.statement.TurnLine.{TurnLine}
 use Rattle.book_lines.specs.declared.statement.SalvoLine.{SalvoLine}
 use Rattle.book_lines.specs.declared.statement.Statement.{Statement}
 use Rattle.book_lines.specs.declared.statement.Statement.TheVariants.{Approach, Wall, Reach, Corner, Room, Span, Lanes, Delays, Hand, Elbow, Start, Turn, Salvo}
-use Rattle.book_lines.specs.Values.{Level, IsNumber, IsNumberAt, AreNumbersAt, Draws, HasLiveCell, IsBodyAt}
-use Rattle.book_lines.specs.Values.Level.{Form, Numbers, Bodies, Whole}
-use Rattle.book_lines.specs.Forms.{IsOneNumber, IsPair, IsSpread, IsBody, IsPlacedBody, IsElbowLine, IsOneName, IsStep, IsEnding, IsTurnLine, IsProduct, IsHand, IsSalvoLine}
+use Rattle.book_lines.specs.Values.{Level, IsNumber, IsNumberAt, AreNumbersAt, Draws, IsBodyAt}
+use Rattle.book_lines.specs.Values.Level.{Form, Numbers, Bodies}
+use Rattle.book_lines.specs.Forms.{IsOneNumber, IsPair, IsSpread, IsBody, IsPlacedBody, IsStep, IsEnding, IsTurnLine, IsProduct, IsHand, IsSalvoLine}
 use Rattle.book_lines.specs.Statements.{ItemsState, StatesAt}
 
 -- numbers of the one level are numbers of the other

@@ -10,3 +10,5 @@ pub mod Lifting
 pub mod Stating
 pub mod Worded
 pub mod Saying
+pub mod OneStatement
+pub mod OneFault

@@ -1,5 +1,5 @@
 -- What is wrong in a part is wrong in the whole.
-use Rattle.std.proofs.Common.{◌≡◌, ℕ, List, refl, sym, subst, Result, Ok, Err, MatchResult, IsOkAnd, IsErrAnd, IfOk, Option, Some, None}
+use Rattle.std.proofs.Common.{◌≡◌, sym, subst, Result, Ok, Err, MatchResult, IsOkAnd, IsErrAnd, IfOk, Option, Some, None}
 use Rattle.book_lines.specs.declared.fault.LineFault.{LineFault}
 use Rattle.book_lines.specs.declared.fault.LineFault.TheVariants as fault
 use Rattle.book_lines.specs.declared.fault.LineError.{LineError}

@@ -1,6 +1,6 @@
 -- Short lists of items, as numbers.
-use Rattle.std.proofs.Common.{◌≡◌, ◌≢◌, ℕ, ◌<◌, ◌≤◌, ℤ, pos, ◌≤ℤ◌, List, [], ◌∷◌, ◌++◌, length, map, take, codes, refl, sym, ap, ◌∙◌, subst, arith, inl, inr, zero, suc, get_or, drop, true, false, ◌==◌}
-use Rattle.std.specs.List.{AllZip, AllByRecursion}
+use Rattle.std.proofs.Common.{◌≡◌, ◌≢◌, ℕ, ◌<◌, ◌≤◌, ℤ, pos, List, [], ◌∷◌, ◌++◌, length, map, take, codes, refl, sym, ap, subst, arith, zero, suc, get_or, drop, true, false, ◌==◌}
+use Rattle.std.specs.List.{AllZip}
 use Rattle.life_cells.specs.Cells.{cell}
 use Rattle.life_cells.specs.declared.cell.Cell.{Cell}
 use Rattle.book_lines.specs.declared.statement.Spread.{Spread}
@@ -9,7 +9,7 @@ use Rattle.std.proofs.lemmas.Bool.Decides.{nat_tests}
 use denote.Ref.{Bor}
 use Rattle.book_lines.specs.Lines.{texts, HaveNoColon}
 use Rattle.book_lines.specs.Reads.{Reads}
-use Rattle.book_lines.specs.Values.{IsNumber, IsNumberAt, AreNumbersAt}
+use Rattle.book_lines.specs.Values.{IsNumber, IsNumberAt}
 use Rattle.book_lines.specs.Values.Level.{Form, Numbers}
 use Rattle.book_lines.specs.Forms.{IsOneNumber, IsPair, IsSpread, AreInOrder}
 

@@ -1,5 +1,5 @@
 -- From the items of a line to the line.
-use Rattle.std.proofs.Common.{◌≡◌, ◌≢◌, ℕ, List, [], ◌∷◌, Result, Ok, Err, IfOk, IfErr, refl, sym, ap, ◌∙◌, subst}
+use Rattle.std.proofs.Common.{◌≡◌, ◌≢◌, ℕ, List, ◌∷◌, Result, Ok, Err, IfOk, IfErr, sym, ap, ◌∙◌, subst}
 use Rattle.book_lines.specs.declared.fault.LineFault.{LineFault}
 use Rattle.book_lines.specs.declared.fault.LineFault.TheVariants as fault
 use Rattle.book_lines.specs.declared.fault.LineError.{LineError}

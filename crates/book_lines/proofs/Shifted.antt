@@ -6,7 +6,7 @@ use Rattle.life_cells.specs.Cells.{Cells, alive, in_order}
 use Rattle.life_cells.specs.Listed.{listed}
 use Rattle.life_cells.specs.Laws.{alive-in_order, alive-in_order_at, rising-in_order, same_rising}
 use Rattle.life_cells.specs.Moved.{moved}
-use Rattle.life_cells.proofs.MovedCells.{listed-moved, rising-moved}
+use Rattle.life_cells.specs.MovedLaws.{listed-moved, rising-moved}
 
 pub shifted_length : (s t : Cells) (dx dy : ℤ) → alive s ≡ shift dx dy (alive t) → length (in_order s) ≡ length (in_order t)
 shifted_length s t dx dy e =

@@ -1,5 +1,5 @@
 -- Lines whose parts are cut state what the parts are.
-use Rattle.std.proofs.Common.{◌≡◌, ◌≢◌, ℕ, ℤ, List, [], ◌∷◌, ◌++◌, codes, Option, Some, None, refl, sym, ap, ◌∙◌, subst}
+use Rattle.std.proofs.Common.{◌≡◌, ℕ, ℤ, List, ◌∷◌, ◌++◌, codes, Option, refl, sym, ap, ◌∙◌, subst}
 use Rattle.life_cells.specs.declared.cell.Cell.{Cell}
 use Rattle.book_parts.specs.Limits.{IsName}
 use Rattle.book_lines.specs.declared.statement.Placed.{Placed}
@@ -15,7 +15,7 @@ use Rattle.book_lines.specs.Forms.{IsEnding, IsTurnLine, IsProduct, IsHand, IsSa
 use Rattle.book_lines.specs.Faults.{StopsBetween}
 use Rattle.book_lines.specs.Cuts.{IsTurnCut, IsSalvoCut}
 use Rattle.book_lines.specs.Reads.{IsErrorOf}
-use Rattle.book_lines.proofs.Levels.{NumbersPass, BodiesPass, ending_pass, numbers_pass, hand_pass, product_pass, turn_pass, salvo_pass, numbers_form, bodies_form, bodies_numbers}
+use Rattle.book_lines.proofs.Levels.{NumbersPass, BodiesPass, ending_pass, numbers_pass, hand_pass, turn_pass, salvo_pass, numbers_form, bodies_form}
 use Rattle.book_lines.proofs.Pieces.{no_colons}
 use Rattle.book_lines.specs.Lines.{HaveNoColon}
 use Rattle.book_lines.proofs.Cutting.{cut_once, turn_parts, turn_formed, ending_free, salvo_parts, salvo_formed, product_free}

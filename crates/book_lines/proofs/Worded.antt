@@ -1,5 +1,5 @@
 -- What the items behind a first word state, by that word.
-use Rattle.std.proofs.Common.{◌≡◌, ℕ, ℤ, List, [], ◌∷◌, refl, sym, ap, ◌∙◌, subst}
+use Rattle.std.proofs.Common.{ℕ, ℤ, List}
 use Rattle.life_cells.specs.declared.cell.Cell.{Cell}
 use Rattle.book_lines.specs.declared.keyword.Keyword.TheVariants as first
 use Rattle.book_lines.specs.declared.statement.Body.{Body}

@@ -1,17 +1,16 @@
 -- Lines cut into the parts of their forms.
-use Rattle.std.specs.Prelude.{◌≡◌, ℕ, ◌<◌, ◌^◌, ℤ, List, [], ◌∷◌, ◌++◌, length, codes, Option}
+use Rattle.std.specs.Prelude.{◌≡◌, ℕ, ℤ, List, [], ◌∷◌, ◌++◌, codes, Option}
 use Rattle.life_cells.specs.Cells.{cell}
 use Rattle.life_cells.specs.declared.cell.Cell.{Cell}
 use Rattle.book_parts.specs.Limits.{IsName}
 use Rattle.book_lines.specs.declared.keyword.Keyword.{Keyword}
 use Rattle.book_lines.specs.declared.statement.Leaves.{Leaves}
-use Rattle.book_lines.specs.declared.statement.Leaves.TheVariants.{Close, Move, Emit}
+use Rattle.book_lines.specs.declared.statement.Leaves.TheVariants.{Move, Emit}
 use Rattle.book_lines.specs.declared.statement.Statement.{Statement}
-use Rattle.book_lines.specs.declared.statement.Statement.TheVariants.{Hand, Elbow, Turn, Salvo}
 use Rattle.book_lines.specs.declared.statement.Placed.{Placed}
 use Rattle.book_lines.specs.declared.fault.LineError.{LineError}
 use Rattle.book_lines.specs.declared.fault.LineError.TheVariants.{Fault, Memory}
-use Rattle.book_lines.specs.Values.{Level, AreNumbersAt, body_count}
+use Rattle.book_lines.specs.Values.{Level, AreNumbersAt}
 use Rattle.book_lines.specs.Values.Level.{Form}
 use Rattle.book_lines.specs.Forms.{IsStep, IsPair, IsEnding, IsProduct, IsHand}
 use Rattle.book_lines.specs.Statements.{keyword, ItemsState}

@@ -5,6 +5,7 @@ mod body;
 pub mod fault;
 pub mod items;
 pub mod keyword;
+pub mod laws;
 pub mod line;
 mod name;
 mod number;
@@ -12,6 +13,8 @@ mod numbers;
 mod placed;
 mod salvo;
 pub mod statement;
+#[cfg(test)]
+mod tests;
 mod turn;
 pub mod words;
 

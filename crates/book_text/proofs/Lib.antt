@@ -8,7 +8,7 @@ pub mod Numbered
 pub mod Counted
 pub mod Sound
 pub mod Finishing
-pub mod OneLine
+pub mod LineLaws
 pub mod OneBook
 pub mod NoRefusal
 pub mod OneRefusal

@@ -10,7 +10,6 @@ use Rattle.book_lines.specs.declared.statement.Statement.{Statement}
 use Rattle.book_lines.specs.Values.Level.{Form, Numbers, Bodies, Whole}
 use Rattle.book_lines.specs.Statements.{keyword, States}
 use Rattle.book_lines.specs.Faults.{IsLineFault}
-use Rattle.book_lines.proofs.Levels.{states_pass, numbers_form, bodies_form, bodies_numbers}
 use Rattle.book_text.specs.declared.error.BookError.{BookError}
 use Rattle.book_text.specs.declared.error.BookError.TheVariants.{BadLine, Doubled, UnknownKind, LimitOver, Missing, WallReach, Memory}
 use Rattle.book_text.specs.declared.error.BookWord.{BookWord}
@@ -20,18 +19,10 @@ use Rattle.book_text.specs.Limited.{Limited, numbers, counts, IsFirstOutside}
 use Rattle.book_text.specs.Joining.{IsNew, KnowsKinds, IsFine}
 use Rattle.book_text.specs.Reading.{AreFine, IsRefused, IsVersion, IsBegun, HasNoVersion, IsRefusedAmong, IsMissing, IsFirstMissing, book_words}
 use Rattle.book_text.specs.Book.{Said, whole, AreRead, Says, StopsInLine, StopsWith}
-use Rattle.book_text.proofs.OneLine.{BodyLaws, one_statement}
+use Rattle.book_text.proofs.LineLaws.{LineLaws}
 use Rattle.book_text.proofs.OneBook.{heads_once, begun_once, fine_once, read_once, whole_once, version_other}
 
 -- ---- a fine line is not refused
-
-pub fault_none : (line : List ℕ) (s : Statement) (why : LineFault) → States line s → IsLineFault line why → ⊥
-fault_none line s fault.Version h f = f.1
-fault_none line s fault.Word h f = f (keyword s, (h.items, h.words_are))
-fault_none line s fault.Form h f = f.1 s (states_pass Whole Form (λ t z p. numbers_form t z p) (λ w at b p. bodies_form w at b p.0) line s h)
-fault_none line s fault.Number h f = f.1.no_farther s (states_pass Whole Numbers (λ t z p. p) (λ w at b p. bodies_numbers w at b p.0) line s h)
-fault_none line s fault.Body h f = f.1.no_farther s (states_pass Whole Bodies (λ t z p. p) (λ w at b p. p.0) line s h)
-fault_none line s fault.Empty h f = f.1.no_farther s h
 
 none_over : (ns : List Limited) (z : ℤ) → IsFirstOutside ns None → IsFirstOutside ns (Some z) → ⊥
 none_over [] z h k = absurd (cc k)
@@ -39,14 +30,14 @@ none_over (n ∷ ns) z (inl h) (inl k) = none_over ns z h.1 k.1
 none_over (n ∷ ns) z (inl h) (inr k) = k.0 h.0
 none_over (n ∷ ns) z (inr h) k = absurd (cc h.1)
 
-fine_stays : (laws : BodyLaws) (stated : Stated) (line : List ℕ) (s : Statement) (number : ℕ) (e : BookError) → IsFine stated line s → IsRefused stated line number e → ⊥
-fine_stays laws stated line s number (BadLine at why) fine r = fault_none line s why fine.states r.1
+fine_stays : (laws : LineLaws) (stated : Stated) (line : List ℕ) (s : Statement) (number : ℕ) (e : BookError) → IsFine stated line s → IsRefused stated line number e → ⊥
+fine_stays laws stated line s number (BadLine at why) fine r = laws.no_fault line s why fine.states r.1
 fine_stays laws stated line s number (Doubled at) fine r =
-    r.1.1.1 (subst (λ (t : Statement). IsNew stated t) (one_statement laws line s r.1.0 fine.states r.1.1.0) fine.new)
+    r.1.1.1 (subst (λ (t : Statement). IsNew stated t) (laws.one line s r.1.0 fine.states r.1.1.0) fine.new)
 fine_stays laws stated line s number (UnknownKind at) fine r =
-    r.1.1.1.1 (subst (λ (t : Statement). KnowsKinds stated t) (one_statement laws line s r.1.0 fine.states r.1.1.0) fine.known)
+    r.1.1.1.1 (subst (λ (t : Statement). KnowsKinds stated t) (laws.one line s r.1.0 fine.states r.1.1.0) fine.known)
 fine_stays laws stated line s number (LimitOver at over) fine r =
-    none_over (numbers r.1.0 ++ counts stated r.1.0) over (subst (λ (t : Statement). IsFirstOutside (numbers t ++ counts stated t) None) (one_statement laws line s r.1.0 fine.states r.1.1.0) fine.within) r.1.1.1.1.1
+    none_over (numbers r.1.0 ++ counts stated r.1.0) over (subst (λ (t : Statement). IsFirstOutside (numbers t ++ counts stated t) None) (laws.one line s r.1.0 fine.states r.1.1.0) fine.within) r.1.1.1.1.1
 fine_stays laws stated line s number (Missing w) fine r = r
 fine_stays laws stated line s number (WallReach wall reach) fine r = r
 fine_stays laws stated line s number Memory fine r = r
@@ -58,7 +49,7 @@ fine_parts stated (line ∷ front) rest after (inl h) = let r = fine_parts state
 fine_parts stated (line ∷ front) rest after (inr h) =
     let r = fine_parts (joined stated h.1.0) front rest after h.1.1.1 in (r.0, (inr (h.0, (h.1.0, (h.1.1.0, r.1.0))), r.1.1))
 
-pub among_none : (laws : BodyLaws) (before : ℕ) (ls : List (List ℕ)) (after : Stated) (e : BookError) → AreFine nothing_stated ls after → IsRefusedAmong before ls e → ⊥
+pub among_none : (laws : LineLaws) (before : ℕ) (ls : List (List ℕ)) (after : Stated) (e : BookError) → AreFine nothing_stated ls after → IsRefusedAmong before ls e → ⊥
 among_none laws before ls after e fine r =
     let parts = fine_parts nothing_stated r.front (r.line ∷ r.more) after (subst (λ (xs : List (List ℕ)). AreFine nothing_stated xs after) r.lines_are fine) in
     let same = fine_once laws nothing_stated r.front parts.0 r.stated parts.1.0 r.fine in
@@ -101,12 +92,12 @@ none_first said some [] w h = h
 none_first said some (v ∷ ws) w (inl h) = none_missing said some v h.0
 none_first said some (v ∷ ws) w (inr h) = none_first said some ws w h.1
 
-in_line : (laws : BodyLaws) (text : List ℕ) (said : Said) (e : BookError) → Says text said → StopsInLine (lines text) e → ⊥
+in_line : (laws : LineLaws) (text : List ℕ) (said : Said) (e : BookError) → Says text said → StopsInLine (lines text) e → ⊥
 in_line laws text said e says stops =
     let r = begun_once (lines text) says.read.number stops.number says.read.body stops.body says.read.begun stops.begun in
     among_none laws stops.number stops.body (whole said) e (subst (λ (body : List (List ℕ)). AreFine nothing_stated body (whole said)) r.1 says.read.fine) stops.refused
 
-pub no_refusal : (laws : BodyLaws) (text : List ℕ) (said : Said) (e : BookError) → Says text said → (said.settings.wall +ℤ pos 9) ≤ℤ said.settings.reach → StopsWith text e → e ≡ Memory
+pub no_refusal : (laws : LineLaws) (text : List ℕ) (said : Said) (e : BookError) → Says text said → (said.settings.wall +ℤ pos 9) ≤ℤ said.settings.reach → StopsWith text e → e ≡ Memory
 no_refusal laws text said Memory says far h = refl
 no_refusal laws text said (BadLine line fault.Version) says far h = absurd (version_there (lines text) says.read.number line says.read.body says.read.begun h)
 no_refusal laws text said (BadLine line fault.Word) says far h = absurd (in_line laws text said _ says h)

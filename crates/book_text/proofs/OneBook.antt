@@ -11,7 +11,7 @@ use Rattle.book_text.specs.Joining.{IsFine}
 use Rattle.book_text.specs.Reading.{AreFine, IsVersion, IsBegun}
 use Rattle.book_text.specs.Book.{Said, whole, AreRead, Says}
 use Rattle.book_text.proofs.Splits.{some_part}
-use Rattle.book_text.proofs.OneLine.{BodyLaws, one_statement}
+use Rattle.book_text.proofs.LineLaws.{LineLaws}
 
 -- ---- the version's line isn't passed over
 
@@ -66,16 +66,16 @@ begun_once ls n m body more h k =
 
 -- ---- what lines state together
 
-pub fine_once : (laws : BodyLaws) (stated : Stated) (ls : List (List ℕ)) (a b : Stated) → AreFine stated ls a → AreFine stated ls b → a ≡ b
+pub fine_once : (laws : LineLaws) (stated : Stated) (ls : List (List ℕ)) (a b : Stated) → AreFine stated ls a → AreFine stated ls b → a ≡ b
 fine_once laws stated [] a b h k = h ∙ sym k
 fine_once laws stated (line ∷ ls) a b (inl h) (inl k) = fine_once laws stated ls a b h.1 k.1
 fine_once laws stated (line ∷ ls) a b (inl h) (inr k) = absurd (k.0 h.0)
 fine_once laws stated (line ∷ ls) a b (inr h) (inl k) = absurd (h.0 k.0)
 fine_once laws stated (line ∷ ls) a b (inr h) (inr k) =
-    let same = one_statement laws line h.1.0 k.1.0 h.1.1.0.states k.1.1.0.states in
+    let same = laws.one line h.1.0 k.1.0 h.1.1.0.states k.1.1.0.states in
     fine_once laws (joined stated k.1.0) ls a b (subst (λ (s : Statement). AreFine (joined stated s) ls a) same h.1.1.1) k.1.1.1
 
-pub read_once : (laws : BodyLaws) (ls : List (List ℕ)) (a b : Stated) → AreRead ls a → AreRead ls b → a ≡ b
+pub read_once : (laws : LineLaws) (ls : List (List ℕ)) (a b : Stated) → AreRead ls a → AreRead ls b → a ≡ b
 read_once laws ls a b h k =
     let r = begun_once ls h.number k.number h.body k.body h.begun k.begun in
     fine_once laws nothing_stated k.body a b (subst (λ (body : List (List ℕ)). AreFine nothing_stated body a) r.1 h.fine) k.fine
@@ -105,5 +105,5 @@ whole_once a b e =
       salvos = (ap (λ (s : Stated). s.salvos) e) i;
     }
 
-pub one_book : (laws : BodyLaws) (text : List ℕ) (a b : Said) → Says text a → Says text b → a ≡ b
+pub one_book : (laws : LineLaws) (text : List ℕ) (a b : Said) → Says text a → Says text b → a ≡ b
 one_book laws text a b h k = whole_once a b (read_once laws (lines text) (whole a) (whole b) h.read k.read)

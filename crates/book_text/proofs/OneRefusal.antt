@@ -9,7 +9,6 @@ use Rattle.book_lines.specs.declared.statement.Statement.{Statement}
 use Rattle.book_lines.specs.Values.Level.{Form, Numbers, Bodies}
 use Rattle.book_lines.specs.Statements.{States, StatesAt}
 use Rattle.book_lines.specs.Faults.{IsLineFault}
-use Rattle.book_lines.proofs.Levels.{states_pass, numbers_form, bodies_form, bodies_numbers}
 use Rattle.book_text.specs.declared.error.BookError.{BookError}
 use Rattle.book_text.specs.declared.error.BookError.TheVariants.{BadLine, Doubled, UnknownKind, LimitOver, Missing, WallReach, Memory}
 use Rattle.book_text.specs.declared.error.BookWord.{BookWord}
@@ -19,53 +18,11 @@ use Rattle.book_text.specs.Joining.{IsNew, KnowsKinds}
 use Rattle.book_text.specs.Reading.{AreFine, IsRefused, HasNoVersion, IsRefusedAmong, IsMissing, IsFirstMissing, book_words}
 use Rattle.book_text.specs.Book.{Said, whole, AreRead, StopsInLine, StopsWith}
 use Rattle.book_text.specs.Drafted.{IsUnfinished}
-use Rattle.book_text.proofs.OneLine.{BodyLaws, one_statement}
+use Rattle.book_text.proofs.LineLaws.{LineLaws}
 use Rattle.book_text.proofs.OneBook.{heads_once, begun_once, fine_once, read_once, whole_once}
-use Rattle.book_text.proofs.NoRefusal.{fault_none, among_none, version_there, none_first, passed_all}
+use Rattle.book_text.proofs.NoRefusal.{among_none, version_there, none_first, passed_all}
 
 -- ---- one line
-
-to_form : (line : List ℕ) (s : Statement) → StatesAt Bodies line s → StatesAt Form line s
-to_form line s h = states_pass Bodies Form (λ t z p. numbers_form t z p) (λ w at b p. bodies_form w at b p) line s h
-
-numbers_to_form : (line : List ℕ) (s : Statement) → StatesAt Numbers line s → StatesAt Form line s
-numbers_to_form line s h = states_pass Numbers Form (λ t z p. numbers_form t z p) (λ w at b p. p) line s h
-
-to_numbers : (line : List ℕ) (s : Statement) → StatesAt Bodies line s → StatesAt Numbers line s
-to_numbers line s h = states_pass Bodies Numbers (λ t z p. p) (λ w at b p. bodies_numbers w at b p) line s h
-
-fault_once : (line : List ℕ) (v w : LineFault) → IsLineFault line v → IsLineFault line w → v ≡ w
-fault_once line fault.Version w h k = absurd h.1
-fault_once line fault.Word fault.Version h k = absurd k.1
-fault_once line fault.Word fault.Word h k = refl
-fault_once line fault.Word fault.Form h k = absurd (h k.0)
-fault_once line fault.Word fault.Number h k = absurd (h k.0)
-fault_once line fault.Word fault.Body h k = absurd (h k.0)
-fault_once line fault.Word fault.Empty h k = absurd (h k.0)
-fault_once line fault.Form fault.Version h k = absurd k.1
-fault_once line fault.Form fault.Word h k = absurd (k h.0)
-fault_once line fault.Form fault.Form h k = refl
-fault_once line fault.Form fault.Number h k = absurd (h.1 k.1.value k.1.so_far)
-fault_once line fault.Form fault.Body h k = absurd (h.1 k.1.value (numbers_to_form line k.1.value k.1.so_far))
-fault_once line fault.Form fault.Empty h k = absurd (h.1 k.1.value (to_form line k.1.value k.1.so_far))
-fault_once line fault.Number fault.Version h k = absurd k.1
-fault_once line fault.Number fault.Word h k = absurd (k h.0)
-fault_once line fault.Number fault.Form h k = absurd (k.1 h.1.value h.1.so_far)
-fault_once line fault.Number fault.Number h k = refl
-fault_once line fault.Number fault.Body h k = absurd (h.1.no_farther k.1.value k.1.so_far)
-fault_once line fault.Number fault.Empty h k = absurd (h.1.no_farther k.1.value (to_numbers line k.1.value k.1.so_far))
-fault_once line fault.Body fault.Version h k = absurd k.1
-fault_once line fault.Body fault.Word h k = absurd (k h.0)
-fault_once line fault.Body fault.Form h k = absurd (k.1 h.1.value (numbers_to_form line h.1.value h.1.so_far))
-fault_once line fault.Body fault.Number h k = absurd (k.1.no_farther h.1.value h.1.so_far)
-fault_once line fault.Body fault.Body h k = refl
-fault_once line fault.Body fault.Empty h k = absurd (h.1.no_farther k.1.value k.1.so_far)
-fault_once line fault.Empty fault.Version h k = absurd k.1
-fault_once line fault.Empty fault.Word h k = absurd (k h.0)
-fault_once line fault.Empty fault.Form h k = absurd (k.1 h.1.value (to_form line h.1.value h.1.so_far))
-fault_once line fault.Empty fault.Number h k = absurd (k.1.no_farther h.1.value (to_numbers line h.1.value h.1.so_far))
-fault_once line fault.Empty fault.Body h k = absurd (k.1.no_farther h.1.value h.1.so_far)
-fault_once line fault.Empty fault.Empty h k = refl
 
 over_once : (ns : List Limited) (z w : ℤ) → IsFirstOutside ns (Some z) → IsFirstOutside ns (Some w) → z ≡ w
 over_once [] z w h k = absurd (cc h)
@@ -74,31 +31,31 @@ over_once (n ∷ ns) z w (inl h) (inr k) = absurd (k.0 h.0)
 over_once (n ∷ ns) z w (inr h) (inl k) = absurd (h.0 k.0)
 over_once (n ∷ ns) z w (inr h) (inr k) = let a = h.1 in let b = k.1 in cc
 
-new_as : (laws : BodyLaws) (stated : Stated) (line : List ℕ) (s t : Statement) → States line s → States line t → IsNew stated s → IsNew stated t
-new_as laws stated line s t h k n = subst (λ (x : Statement). IsNew stated x) (one_statement laws line s t h k) n
+new_as : (laws : LineLaws) (stated : Stated) (line : List ℕ) (s t : Statement) → States line s → States line t → IsNew stated s → IsNew stated t
+new_as laws stated line s t h k n = subst (λ (x : Statement). IsNew stated x) (laws.one line s t h k) n
 
-knows_as : (laws : BodyLaws) (stated : Stated) (line : List ℕ) (s t : Statement) → States line s → States line t → KnowsKinds stated s → KnowsKinds stated t
-knows_as laws stated line s t h k n = subst (λ (x : Statement). KnowsKinds stated x) (one_statement laws line s t h k) n
+knows_as : (laws : LineLaws) (stated : Stated) (line : List ℕ) (s t : Statement) → States line s → States line t → KnowsKinds stated s → KnowsKinds stated t
+knows_as laws stated line s t h k n = subst (λ (x : Statement). KnowsKinds stated x) (laws.one line s t h k) n
 
-refused_once : (laws : BodyLaws) (stated : Stated) (line : List ℕ) (n : ℕ) (e f : BookError) → IsRefused stated line n e → IsRefused stated line n f → e ≡ f
-refused_once laws stated line n (BadLine a v) (BadLine b w) h k = let at : a ≡ b = h.0 ∙ sym k.0 in let why = fault_once line v w h.1 k.1 in cc
-refused_once laws stated line n (BadLine a v) (Doubled b) h k = absurd (fault_none line k.1.0 v k.1.1.0 h.1)
-refused_once laws stated line n (BadLine a v) (UnknownKind b) h k = absurd (fault_none line k.1.0 v k.1.1.0 h.1)
-refused_once laws stated line n (BadLine a v) (LimitOver b w) h k = absurd (fault_none line k.1.0 v k.1.1.0 h.1)
-refused_once laws stated line n (Doubled a) (BadLine b w) h k = absurd (fault_none line h.1.0 w h.1.1.0 k.1)
+refused_once : (laws : LineLaws) (stated : Stated) (line : List ℕ) (n : ℕ) (e f : BookError) → IsRefused stated line n e → IsRefused stated line n f → e ≡ f
+refused_once laws stated line n (BadLine a v) (BadLine b w) h k = let at : a ≡ b = h.0 ∙ sym k.0 in let why = laws.one_fault line v w h.1 k.1 in cc
+refused_once laws stated line n (BadLine a v) (Doubled b) h k = absurd (laws.no_fault line k.1.0 v k.1.1.0 h.1)
+refused_once laws stated line n (BadLine a v) (UnknownKind b) h k = absurd (laws.no_fault line k.1.0 v k.1.1.0 h.1)
+refused_once laws stated line n (BadLine a v) (LimitOver b w) h k = absurd (laws.no_fault line k.1.0 v k.1.1.0 h.1)
+refused_once laws stated line n (Doubled a) (BadLine b w) h k = absurd (laws.no_fault line h.1.0 w h.1.1.0 k.1)
 refused_once laws stated line n (Doubled a) (Doubled b) h k = ap Doubled (h.0 ∙ sym k.0)
 refused_once laws stated line n (Doubled a) (UnknownKind b) h k = absurd (h.1.1.1 (new_as laws stated line k.1.0 h.1.0 k.1.1.0 h.1.1.0 k.1.1.1.0))
 refused_once laws stated line n (Doubled a) (LimitOver b w) h k = absurd (h.1.1.1 (new_as laws stated line k.1.0 h.1.0 k.1.1.0 h.1.1.0 k.1.1.1.0))
-refused_once laws stated line n (UnknownKind a) (BadLine b w) h k = absurd (fault_none line h.1.0 w h.1.1.0 k.1)
+refused_once laws stated line n (UnknownKind a) (BadLine b w) h k = absurd (laws.no_fault line h.1.0 w h.1.1.0 k.1)
 refused_once laws stated line n (UnknownKind a) (Doubled b) h k = absurd (k.1.1.1 (new_as laws stated line h.1.0 k.1.0 h.1.1.0 k.1.1.0 h.1.1.1.0))
 refused_once laws stated line n (UnknownKind a) (UnknownKind b) h k = ap UnknownKind (h.0 ∙ sym k.0)
 refused_once laws stated line n (UnknownKind a) (LimitOver b w) h k = absurd (h.1.1.1.1 (knows_as laws stated line k.1.0 h.1.0 k.1.1.0 h.1.1.0 k.1.1.1.1.0))
-refused_once laws stated line n (LimitOver a v) (BadLine b w) h k = absurd (fault_none line h.1.0 w h.1.1.0 k.1)
+refused_once laws stated line n (LimitOver a v) (BadLine b w) h k = absurd (laws.no_fault line h.1.0 w h.1.1.0 k.1)
 refused_once laws stated line n (LimitOver a v) (Doubled b) h k = absurd (k.1.1.1 (new_as laws stated line h.1.0 k.1.0 h.1.1.0 k.1.1.0 h.1.1.1.0))
 refused_once laws stated line n (LimitOver a v) (UnknownKind b) h k = absurd (k.1.1.1.1 (knows_as laws stated line h.1.0 k.1.0 h.1.1.0 k.1.1.0 h.1.1.1.1.0))
 refused_once laws stated line n (LimitOver a v) (LimitOver b w) h k =
     let at : a ≡ b = h.0 ∙ sym k.0 in
-    let same = one_statement laws line h.1.0 k.1.0 h.1.1.0 k.1.1.0 in
+    let same = laws.one line h.1.0 k.1.0 h.1.1.0 k.1.1.0 in
     let over = over_once (numbers k.1.0 ++ counts stated k.1.0) v w (subst (λ (x : Statement). IsFirstOutside (numbers x ++ counts stated x) (Some v)) same h.1.1.1.1.1) k.1.1.1.1.1 in
     cc
 refused_once laws stated line n (Missing a) f h k = absurd h
@@ -138,7 +95,7 @@ fronts (l ∷ front) (o ∷ other) line first more rest e =
     let head : l ≡ o = cc in
     one_longer l o line first front other head (fronts front other line first more rest tail)
 
-among_once : (laws : BodyLaws) (before : ℕ) (ls : List (List ℕ)) (e f : BookError) → IsRefusedAmong before ls e → IsRefusedAmong before ls f → e ≡ f
+among_once : (laws : LineLaws) (before : ℕ) (ls : List (List ℕ)) (e f : BookError) → IsRefusedAmong before ls e → IsRefusedAmong before ls f → e ≡ f
 among_once laws before ls e f h k = by_fronts (fronts h.front k.front h.line k.line h.more k.more (sym h.lines_are ∙ k.lines_are))
   where
     by_fronts : Fronts h.front k.front h.line k.line → e ≡ f
@@ -227,12 +184,12 @@ outcome text (WallReach wall reach) h other =
     inr (inr (record { stated = whole h.0; read = h.1.0.read; unfinished = (h.0, (refl, (h.1.0.some_kind, (h.1.1.0, (h.1.1.1.0, h.1.1.1.1))))) }))
 outcome text Memory h other = absurd (other refl)
 
-in_line_or : (laws : BodyLaws) (text : List ℕ) (e f : BookError) → StopsInLine (lines text) e → IsEnd text f → ⊥
+in_line_or : (laws : LineLaws) (text : List ℕ) (e f : BookError) → StopsInLine (lines text) e → IsEnd text f → ⊥
 in_line_or laws text e f h k =
     let r = begun_once (lines text) k.read.number h.number k.read.body h.body k.read.begun h.begun in
     among_none laws h.number h.body k.stated e (subst (λ (body : List (List ℕ)). AreFine nothing_stated body k.stated) r.1 k.read.fine) h.refused
 
-outcome_once : (laws : BodyLaws) (text : List ℕ) (e f : BookError) → Outcome text e → Outcome text f → e ≡ f
+outcome_once : (laws : LineLaws) (text : List ℕ) (e f : BookError) → Outcome text e → Outcome text f → e ≡ f
 outcome_once laws text e f (inl h) (inl k) =
     h.error_is ∙ ap (λ (n : ℕ). BadLine n fault.Version) (version_once (lines text) h.line k.line h.none k.none) ∙ sym k.error_is
 outcome_once laws text e f (inl h) (inr (inl k)) = absurd (version_there (lines text) k.number h.line k.body k.begun h.none)
@@ -248,5 +205,5 @@ outcome_once laws text e f (inr (inr h)) (inr (inr k)) =
     let same = read_once laws (lines text) h.stated k.stated h.read k.read in
     unfinished_once k.stated e f (subst (λ (s : Stated). IsUnfinished s e) same h.unfinished) k.unfinished
 
-pub one_refusal : (laws : BodyLaws) (text : List ℕ) (e f : BookError) → StopsWith text e → StopsWith text f → e ≢ Memory → f ≢ Memory → e ≡ f
+pub one_refusal : (laws : LineLaws) (text : List ℕ) (e f : BookError) → StopsWith text e → StopsWith text f → e ≢ Memory → f ≢ Memory → e ≡ f
 one_refusal laws text e f h k other other_too = outcome_once laws text e f (outcome text e h other) (outcome text f k other_too)

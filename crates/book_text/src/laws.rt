@@ -7,33 +7,33 @@ ghost use Rattle.book_text.specs.ProperSaid.{IsProperSaid};
 ghost use Rattle.book_text.specs.declared.error.BookError.{BookError};
 
 use crate::error::BookError;
-use rle_items::laws::{fine_words_have_no_refusal, words_have_one_refusal, words_mean_one_plane};
+use book_lines::laws::{lines_have_one_fault, lines_state_one_thing, stating_lines_have_no_fault};
 
 /// A text says one book at most.
 pub fn texts_say_one_book()
     ensures { (text : List ℕ) (a b : Said) → Says text a → Says text b → a ≡ b }
 {
-    words_mean_one_plane();
-    words_have_one_refusal();
-    fine_words_have_no_refusal();
+    lines_state_one_thing();
+    lines_have_one_fault();
+    stating_lines_have_no_fault();
 }
 
 /// A text has one refusal, want of memory aside.
 pub fn texts_have_one_refusal()
     ensures { (text : List ℕ) (e f : BookError) → StopsWith text e → StopsWith text f → e ≢ BookError.Memory → f ≢ BookError.Memory → e ≡ f }
 {
-    words_mean_one_plane();
-    words_have_one_refusal();
-    fine_words_have_no_refusal();
+    lines_state_one_thing();
+    lines_have_one_fault();
+    stating_lines_have_no_fault();
 }
 
 /// A text that says a book whose reach is far enough has no refusal, want of memory aside.
 pub fn books_have_no_refusal()
     ensures { (text : List ℕ) (said : Said) (e : BookError) → Says text said → (said.settings.wall +ℤ pos 9) ≤ℤ said.settings.reach → StopsWith text e → e ≡ BookError.Memory }
 {
-    words_mean_one_plane();
-    words_have_one_refusal();
-    fine_words_have_no_refusal();
+    lines_state_one_thing();
+    lines_have_one_fault();
+    stating_lines_have_no_fault();
 }
 
 /// What a text says is proper, where the reach is far enough.

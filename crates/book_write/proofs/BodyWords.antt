@@ -12,7 +12,7 @@ use Rattle.life_cells.specs.Boxes.{IsInRange}
 use Rattle.life_cells.specs.Listed.{listed}
 use Rattle.life_cells.specs.Moved.{moved}
 use Rattle.life_cells.specs.Laws.{alive-in_order, rising-in_order, same_rising}
-use Rattle.life_cells.proofs.MovedCells.{listed-moved, rising-moved}
+use Rattle.life_cells.specs.MovedLaws.{listed-moved, rising-moved}
 use Rattle.rle_items.specs.declared.item.Item.{Item}
 use Rattle.rle_items.specs.declared.item.Tag.{Tag}
 use Rattle.rle_items.specs.declared.item.Tag.TheVariants.{Dead, Alive, RowEnd}
@@ -23,11 +23,10 @@ use Rattle.rle_items.specs.Words.{tag_byte, item_text}
 use Rattle.life_rle.specs.Drawn.{AreSmall}
 use Rattle.rle_items.specs.Faults.{IsNear, AreFine, IsFineWord}
 use Rattle.rle_items.specs.Words.{WordMeans}
-use Rattle.life_rle.proofs.Bytes.{both, all_append, decimal_passes, small_fits}
+use Rattle.life_rle.specs.ByteLaws.{both, all_append, decimal_passes, small_fits}
 use Rattle.rle_items.specs.DrawnCells.{IsDrawn, drawn_none, drawn_push}
 use Rattle.rle_items.specs.DrawnCells.{same_cells as same_planes}
-use Rattle.life_rle.proofs.ReadBack.{word_means}
-use Rattle.life_rle.proofs.Spelled.{word_spelled, word_whole}
+use Rattle.life_rle.specs.SpellingLaws.{word_means, word_spelled, word_whole}
 use Rattle.book_write.proofs.Visible.{is_visible, digit_visible, IsWord}
 
 abbrev origin : Cell

@@ -5,7 +5,7 @@ use Rattle.std.specs.Str.Lines.{lines, lines_of_parts, strip_carriage_return}
 use Rattle.std.proofs.Common.{refl, sym, ap, ◌∙◌}
 use Rattle.std.proofs.lemmas.List.Splits.{slice_split_at}
 use Rattle.std.proofs.lemmas.List.Sums.{AllPass-from_list_all}
-use Rattle.life_rle.proofs.Bytes.{not_false}
+use Rattle.life_rle.specs.ByteLaws.{not_false}
 
 abbrev pub ends_line : ℕ → Bool
 ends_line b = b == 10

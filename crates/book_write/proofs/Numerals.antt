@@ -4,7 +4,7 @@ use Rattle.std.specs.List.{AllByRecursion, AllZip}
 use Rattle.std.specs.Fmt.{decimal, signed_decimal}
 use Rattle.std.proofs.lemmas.Int.{ints}
 use Rattle.rle_items.specs.Numbers.{IsNatural}
-use Rattle.life_rle.proofs.Bytes.{decimal_natural, decimal_passes}
+use Rattle.life_rle.specs.ByteLaws.{decimal_natural, decimal_passes}
 use Rattle.book_lines.specs.Values.{IsNumber, IsNumberAt, AreNumbersAt}
 use Rattle.book_lines.specs.Values.Level.{Whole}
 use Rattle.book_write.proofs.Visible.{is_visible, digit_visible, IsWord}

@@ -6,7 +6,7 @@ use Rattle.life_plane.specs.Plane.{Plane, nothing, shift}
 use Rattle.life_cells.specs.Cells.{Cells, alive}
 use Rattle.life_cells.specs.BoxLaws.{one_least_box}
 use Rattle.life_cells.specs.declared.bounds.Bounds.{Bounds}
-use Rattle.life_rle.proofs.OneWriting.{one_word}
+use Rattle.life_rle.specs.Written.{IsBodyText}
 use Rattle.book_parts.specs.declared.kind.RawKind.{RawKind}
 use Rattle.book_parts.specs.declared.salvo.RawSalvo.{RawSalvo}
 use Rattle.book_parts.specs.declared.book.RawBook.{RawBook}
@@ -14,53 +14,55 @@ use Rattle.book_write.specs.Laid.{text_of}
 use Rattle.book_write.specs.Parts.{version_words, settings_words, IsBodyWord, IsHandLine, IsPlacedText, IsKindLine, start_words, turn_words, IsProductText, hand_words, IsSalvoLine}
 use Rattle.book_write.specs.Canonical.{IsBookText}
 
-one_body : (s : Plane) (ws vs : List (List ℕ)) → IsBodyWord s ws → IsBodyWord s vs → ws ≡ vs
-one_body s ws vs h k = h.words_are ∙ ap (λ (w : List ℕ). w ∷ []) (one_word s h.body k.body h.body_is k.body_is) ∙ sym k.words_are
+-- a set has one body word, as life_rle tells
+module _ (one_word : (s : Plane) (word other : List ℕ) → IsBodyText s word → IsBodyText s other → word ≡ other) where
+  one_body : (s : Plane) (ws vs : List (List ℕ)) → IsBodyWord s ws → IsBodyWord s vs → ws ≡ vs
+  one_body s ws vs h k = h.words_are ∙ ap (λ (w : List ℕ). w ∷ []) (one_word s h.body k.body h.body_is k.body_is) ∙ sym k.words_are
 
-one_hand : (hand : Cells) (ws vs : List (List ℕ)) → IsHandLine hand ws → IsHandLine hand vs → ws ≡ vs
-one_hand hand ws vs h k = h.words_are ∙ ap (λ (w : List (List ℕ)). codes "hand" ∷ w) (one_body (alive hand) h.drawn k.drawn h.drawn_is k.drawn_is) ∙ sym k.words_are
+  one_hand : (hand : Cells) (ws vs : List (List ℕ)) → IsHandLine hand ws → IsHandLine hand vs → ws ≡ vs
+  one_hand hand ws vs h k = h.words_are ∙ ap (λ (w : List (List ℕ)). codes "hand" ∷ w) (one_body (alive hand) h.drawn k.drawn h.drawn_is k.drawn_is) ∙ sym k.words_are
 
-one_placed : (s : Plane) (ws vs : List (List ℕ)) → IsPlacedText s ws → IsPlacedText s vs → ws ≡ vs
-one_placed s ws vs h k =
-    let box : h.box ≡ k.box = one_least_box s h.box k.box h.box_is k.box_is in
-    let same = one_body (shift (neg_ℤ k.box.left) (neg_ℤ k.box.top) s) h.drawn k.drawn (subst (λ (b : Bounds). IsBodyWord (shift (neg_ℤ b.left) (neg_ℤ b.top) s) h.drawn) box h.drawn_is) k.drawn_is in
-    h.words_are ∙ (λ i. signed_decimal (box i).left ∷ (signed_decimal (box i).top ∷ same i)) ∙ sym k.words_are
+  one_placed : (s : Plane) (ws vs : List (List ℕ)) → IsPlacedText s ws → IsPlacedText s vs → ws ≡ vs
+  one_placed s ws vs h k =
+      let box : h.box ≡ k.box = one_least_box s h.box k.box h.box_is k.box_is in
+      let same = one_body (shift (neg_ℤ k.box.left) (neg_ℤ k.box.top) s) h.drawn k.drawn (subst (λ (b : Bounds). IsBodyWord (shift (neg_ℤ b.left) (neg_ℤ b.top) s) h.drawn) box h.drawn_is) k.drawn_is in
+      h.words_are ∙ (λ i. signed_decimal (box i).left ∷ (signed_decimal (box i).top ∷ same i)) ∙ sym k.words_are
 
-one_kind : (kind : RawKind) (ws vs : List (List ℕ)) → IsKindLine kind ws → IsKindLine kind vs → ws ≡ vs
-one_kind kind ws vs h k = h.words_are ∙ ap (λ (w : List (List ℕ)). codes "elbow" ∷ (kind.name ∷ w)) (one_placed (alive kind.cells) h.placed k.placed h.placed_is k.placed_is) ∙ sym k.words_are
+  one_kind : (kind : RawKind) (ws vs : List (List ℕ)) → IsKindLine kind ws → IsKindLine kind vs → ws ≡ vs
+  one_kind kind ws vs h k = h.words_are ∙ ap (λ (w : List (List ℕ)). codes "elbow" ∷ (kind.name ∷ w)) (one_placed (alive kind.cells) h.placed k.placed h.placed_is k.placed_is) ∙ sym k.words_are
 
-nothing_placed : (s : Plane) (ws : List (List ℕ)) → s ≡ nothing → IsPlacedText s ws → ⊥
-nothing_placed s ws none h =
-    let lives = h.box_is.lives in
-    let dead : s lives.0 lives.1.0 ≡ nothing lives.0 lives.1.0 = ap (λ (p : Plane). p lives.0 lives.1.0) none in
-    let live = lives.1.1 in
-    cc
+  nothing_placed : (s : Plane) (ws : List (List ℕ)) → s ≡ nothing → IsPlacedText s ws → ⊥
+  nothing_placed s ws none h =
+      let lives = h.box_is.lives in
+      let dead : s lives.0 lives.1.0 ≡ nothing lives.0 lives.1.0 = ap (λ (p : Plane). p lives.0 lives.1.0) none in
+      let live = lives.1.1 in
+      cc
 
-one_product : (s : Plane) (ws vs : List (List ℕ)) → IsProductText s ws → IsProductText s vs → ws ≡ vs
-one_product s ws vs (inl h) (inl k) = h.1 ∙ sym k.1
-one_product s ws vs (inl h) (inr k) = absurd (nothing_placed s vs h.0 k)
-one_product s ws vs (inr h) (inl k) = absurd (nothing_placed s ws k.0 h)
-one_product s ws vs (inr h) (inr k) = one_placed s ws vs h k
+  one_product : (s : Plane) (ws vs : List (List ℕ)) → IsProductText s ws → IsProductText s vs → ws ≡ vs
+  one_product s ws vs (inl h) (inl k) = h.1 ∙ sym k.1
+  one_product s ws vs (inl h) (inr k) = absurd (nothing_placed s vs h.0 k)
+  one_product s ws vs (inr h) (inl k) = absurd (nothing_placed s ws k.0 h)
+  one_product s ws vs (inr h) (inr k) = one_placed s ws vs h k
 
-one_salvo : (salvo : RawSalvo) (ws vs : List (List ℕ)) → IsSalvoLine salvo ws → IsSalvoLine salvo vs → ws ≡ vs
-one_salvo salvo ws vs h k =
-    let same = one_product (alive salvo.product) h.product k.product h.product_is k.product_is in
-    h.words_are ∙ (λ i. codes "salvo" ∷ (salvo.name ∷ (codes ":" ∷ (map signed_decimal salvo.lanes ++ (codes ":" ∷ (same i ++ (codes ":" ∷ hand_words salvo.hand))))))) ∙ sym k.words_are
+  one_salvo : (salvo : RawSalvo) (ws vs : List (List ℕ)) → IsSalvoLine salvo ws → IsSalvoLine salvo vs → ws ≡ vs
+  one_salvo salvo ws vs h k =
+      let same = one_product (alive salvo.product) h.product k.product h.product_is k.product_is in
+      h.words_are ∙ (λ i. codes "salvo" ∷ (salvo.name ∷ (codes ":" ∷ (map signed_decimal salvo.lanes ++ (codes ":" ∷ (same i ++ (codes ":" ∷ hand_words salvo.hand))))))) ∙ sym k.words_are
 
--- lists that go with one list by a relation of one answer
-one_each : {X Y : Type 0} (R : X → Y → Type 0) → ((x : X) (y z : Y) → R x y → R x z → y ≡ z) → (xs : List X) (ys zs : List Y) → AllZip R xs ys → AllZip R xs zs → ys ≡ zs
-one_each R f [] [] [] h k = refl
-one_each R f [] (y ∷ ys) zs h k = absurd h
-one_each R f [] [] (z ∷ zs) h k = absurd k
-one_each R f (x ∷ xs) [] zs h k = absurd h
-one_each R f (x ∷ xs) (y ∷ ys) [] h k = absurd k
-one_each R f (x ∷ xs) (y ∷ ys) (z ∷ zs) h k = λ i. f x y z h.0 k.0 i ∷ one_each R f xs ys zs h.1 k.1 i
+  -- lists that go with one list by a relation of one answer
+  one_each : {X Y : Type 0} (R : X → Y → Type 0) → ((x : X) (y z : Y) → R x y → R x z → y ≡ z) → (xs : List X) (ys zs : List Y) → AllZip R xs ys → AllZip R xs zs → ys ≡ zs
+  one_each R f [] [] [] h k = refl
+  one_each R f [] (y ∷ ys) zs h k = absurd h
+  one_each R f [] [] (z ∷ zs) h k = absurd k
+  one_each R f (x ∷ xs) [] zs h k = absurd h
+  one_each R f (x ∷ xs) (y ∷ ys) [] h k = absurd k
+  one_each R f (x ∷ xs) (y ∷ ys) (z ∷ zs) h k = λ i. f x y z h.0 k.0 i ∷ one_each R f xs ys zs h.1 k.1 i
 
-pub one_text : (book : RawBook) (text other : List ℕ) → IsBookText book text → IsBookText book other → text ≡ other
-one_text book text other h k =
-    let hand = one_hand book.hand h.hand k.hand h.hand_is k.hand_is in
-    let kinds = one_each IsKindLine one_kind book.kinds.items h.kinds k.kinds h.kinds_are k.kinds_are in
-    let salvos = one_each IsSalvoLine one_salvo book.salvos.items h.salvos k.salvos h.salvos_are k.salvos_are in
-    h.whole
-    ∙ (λ i. text_of (version_words ∷ (settings_words book.settings ++ (hand i ∷ (kinds i ++ (start_words book.kinds.items book.start ∷ (map (turn_words book.kinds.items) book.turns.items ++ salvos i)))))))
-    ∙ sym k.whole
+  pub one_text : (book : RawBook) (text other : List ℕ) → IsBookText book text → IsBookText book other → text ≡ other
+  one_text book text other h k =
+      let hand = one_hand book.hand h.hand k.hand h.hand_is k.hand_is in
+      let kinds = one_each IsKindLine one_kind book.kinds.items h.kinds k.kinds h.kinds_are k.kinds_are in
+      let salvos = one_each IsSalvoLine one_salvo book.salvos.items h.salvos k.salvos h.salvos_are k.salvos_are in
+      h.whole
+      ∙ (λ i. text_of (version_words ∷ (settings_words book.settings ++ (hand i ∷ (kinds i ++ (start_words book.kinds.items book.start ∷ (map (turn_words book.kinds.items) book.turns.items ++ salvos i)))))))
+      ∙ sym k.whole

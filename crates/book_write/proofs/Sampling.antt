@@ -12,7 +12,7 @@ use Rattle.life_cells.specs.declared.bounds.Bounds.{Bounds}
 use Rattle.life_cells.specs.Boxes.{IsLeastBox}
 use Rattle.life_cells.specs.Cells.{Cells, alive, in_order, empty}
 use Rattle.life_cells.specs.Laws.{alive-empty}
-use Rattle.life_rle.proofs.Bytes.{first, second, not_false}
+use Rattle.life_rle.specs.ByteLaws.{first, second, not_false}
 use Rattle.book_parts.specs.Limits.{IsName, IsPlaced, AreProper, begins_with_letter, is_name_byte}
 use Rattle.book_parts.specs.Proper.{IsNoneOf, AreDistinct, IsKindNumber, IsProperHand, IsProperKind, IsProperTurn, IsProperSalvo, IsProperBook}
 use Rattle.book_parts.specs.declared.kind.RawKind.{RawKind}

@@ -9,8 +9,8 @@ use Rattle.std.proofs.lemmas.Bool.{ne_eqb}
 use Rattle.std.proofs.lemmas.Bool.Decides.{nat_tests}
 use Rattle.life_rle.specs.Text.{words}
 use Rattle.life_rle.specs.Blanks.{is_blank_byte, IsPassedOver}
-use Rattle.life_rle.proofs.Bytes.{all_append}
-use Rattle.life_rle.proofs.Lining.{strip_same}
+use Rattle.life_rle.specs.ByteLaws.{all_append}
+use Rattle.life_rle.specs.LineLaws.{strip_same}
 use Rattle.book_write.proofs.FirstLine.{lines_first}
 use Rattle.book_write.specs.Laid.{spaced, line_of, text_of}
 use Rattle.book_write.proofs.Visible.{is_visible, no_blank, all_weaker, IsWord}

@@ -4,7 +4,7 @@ use Rattle.std.specs.List.{list_all}
 use Rattle.std.proofs.lemmas.Bool.{eqb-false}
 use Rattle.std.proofs.lemmas.Bool.Decides.{nat_tests}
 use Rattle.book_parts.specs.Limits.{is_name_byte, IsName}
-use Rattle.life_rle.proofs.Bytes.{both, first, second}
+use Rattle.life_rle.specs.ByteLaws.{both, first, second}
 
 abbrev pub is_visible : ℕ → Bool
 is_visible b = nat_lt 32 b

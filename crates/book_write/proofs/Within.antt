@@ -6,7 +6,7 @@ use Rattle.life_plane.specs.Plane.{Plane}
 use Rattle.life_cells.specs.declared.cell.Cell.{Cell}
 use Rattle.life_cells.specs.Cells.{Cells, alive, in_order}
 use Rattle.life_cells.specs.Laws.{alive-in_order}
-use Rattle.life_rle.proofs.Growing.{each_listed}
+use Rattle.life_cells.specs.PlaceLaws.{each_listed}
 use Rattle.book_parts.specs.Limits.{IsCoordinate, IsPlaced}
 use Rattle.book_lines.specs.declared.statement.Statement.{Statement}
 use Rattle.book_lines.specs.Counts.{delay_count, lane_count, cell_count}

@@ -11,7 +11,7 @@ use Rattle.life_cells.specs.Moved.{moved, FitsMoved}
 use Rattle.life_cells.specs.Near.{near_row, near_list, block}
 use Rattle.life_cells.specs.Boxes.{IsInRange, CanMove}
 use Rattle.life_cells.proofs.Places.{place_listed, alive_of_order}
-use Rattle.life_cells.proofs.MovedCells.{rising-moved, listed-moved}
+use Rattle.life_cells.specs.MovedLaws.{rising-moved, listed-moved}
 use Rattle.life_cells.proofs.Times.{times-append, times-moved, times-rising}
 use Rattle.life_plane.specs.Plane.{Plane, one_if, shift, same_plane}
 

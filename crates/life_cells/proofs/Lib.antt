@@ -1,6 +1,5 @@
 -- Lemmas of this crate's own proofs.
 pub mod Places
-pub mod MovedCells
 pub mod Merging
 pub mod Times
 pub mod Runs

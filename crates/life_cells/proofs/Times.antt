@@ -12,7 +12,7 @@ use Rattle.life_cells.specs.Cells.{cell, cell_cmp, IsRising}
 use Rattle.life_cells.specs.Listed.{same_cell, listed, times}
 use Rattle.life_cells.specs.Moved.{moved}
 use Rattle.life_cells.specs.Order.{same_cell_is}
-use Rattle.life_cells.proofs.MovedCells.{same_cell-moved}
+use Rattle.life_cells.specs.MovedLaws.{same_cell-moved}
 use Rattle.life_plane.specs.Plane.{one_if}
 
 pub times-append : (cs ds : List Cell) (x y : ℤ) → times (cs ++ ds) x y ≡ times cs x y + times ds x y

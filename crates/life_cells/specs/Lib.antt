@@ -14,3 +14,5 @@ pub mod Difference
 pub mod Close
 pub mod Firsts
 pub mod FirstLaws
+pub mod PlaceLaws
+pub mod MovedLaws

@@ -102,7 +102,7 @@ length_from_one s (a ∷ []) h one = refl
 length_from_one s (a ∷ b ∷ islands) h one = absurd (no_two (same_islands s a b one h.each.0 h.each.1.0))
   where
     same_islands : (s : Plane) (a b : Island) → IsOneIsland s → IsNoted s a → IsNoted s b → a ≡ b
-    same_islands s a b one h k = same_noted s a b a.first h k h.first.lives (subst (λ (p : Plane). Lives p a.first) (all_of_one s (alive a.cells) one h.is ∙ sym (all_of_one s (alive b.cells) one k.is)) h.first.lives)
+    same_islands s a b one h k = same_noted s a b a.first h k h.first.is (subst (λ (p : Plane). Lives p a.first) (all_of_one s (alive a.cells) one h.is ∙ sym (all_of_one s (alive b.cells) one k.is)) h.first.is)
 
     no_two : a ≡ b → ⊥
     no_two e = let P : Island → Type 0 = λ z. ComesBefore a z in not_before_itself a (subst P (sym e) h.in_order.0.0)

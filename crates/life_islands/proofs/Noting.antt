@@ -74,8 +74,8 @@ under_new (e ∷ entries) k v c lives = by (rank_cmp k e.0) (under_new entries k
 -- islands of one rank are one
 one_of_rank : (s : Plane) (e : Entry) (k : Rank) (v : Cells) (c : Cell) → k ≡ e.0 → IsRanked s e → IsRanked s (k, v) → Lives (alive e.1) c → Lives (alive v) c
 one_of_rank s e k v c same h new lives =
-    let first : Lives (alive v) e.0.first = let P : Rank → Type 0 = λ r. Lives (alive v) r.first in subst P same new.rank.first.lives in
-    let planes : alive e.1 ≡ alive v = sharing_islands s (alive e.1) (alive v) h.is new.is e.0.first h.rank.first.lives first in
+    let first : Lives (alive v) e.0.first = let P : Rank → Type 0 = λ r. Lives (alive v) r.first in subst P same new.rank.first.is in
+    let planes : alive e.1 ≡ alive v = sharing_islands s (alive e.1) (alive v) h.is new.is e.0.first h.rank.first.is first in
     let P : Plane → Type 0 = λ p. Lives p c in subst P planes lives
 
 -- a cell of those before

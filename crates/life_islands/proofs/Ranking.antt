@@ -8,7 +8,7 @@ use Rattle.std.specs.Ordering.{is_lt, ord_min}
 use Rattle.std.proofs.lemmas.Int.{ints, clamps, to_z-of_z}
 use Rattle.life_cells.specs.Boxes.{IsInRange}
 use Rattle.life_cells.specs.BoxLaws.{IsCellInRange}
-use Rattle.life_cells.specs.Cells.{cell_cmp}
+use Rattle.life_cells.specs.Cells.{cell, cell_cmp}
 use Rattle.life_cells.specs.Listed.{listed}
 use Rattle.std.proofs.lemmas.List.{take_more, take_all}
 use Rattle.std.proofs.lemmas.Option.{slice_get-get_or}
@@ -16,7 +16,8 @@ use Rattle.life_cells.specs.Laws.{listed_at_place}
 use Rattle.life_cells.specs.Order.{cells_total}
 use Rattle.life_cells.specs.declared.cell.Cell.{Cell}
 use Rattle.life_islands.specs.Joined.{Lives}
-use Rattle.life_islands.specs.Order.{IsGreatestU, IsFirstCell}
+use Rattle.life_cells.specs.Firsts.{IsFirstLive}
+use Rattle.life_islands.specs.Order.{IsGreatestU}
 use Rattle.life_islands.specs.OrderLaws.{not_both}
 use Rattle.life_islands.specs.Ranks.{IsRankOf}
 use Rattle.life_islands.specs.declared.rank.Rank.{Rank}
@@ -37,8 +38,8 @@ rank_one c m is = record {
     there = (c, (listed_one c, omega (arith, ints)));
   };
   first = record {
-    lives = listed_one c;
-    none_before = λ d less lives. let same = only_one c d lives in not_both d c less (ap (λ e. cell_cmp c e) (sym same) ∙ ap (λ e. cell_cmp e c) same ∙ less);
+    is = listed_one c;
+    none_before = λ x y lives less. let same = only_one c (cell x y) lives in not_both (cell x y) c less (ap (λ e. cell_cmp c e) (sym same) ∙ ap (λ e. cell_cmp e c) same ∙ less);
   };
 }
 
@@ -66,25 +67,25 @@ greatest_with cells c old m h is = record {
         (c, (listed_right cells (c ∷ []) c (listed_one c), is_u ∙ ap neg_ℤ (sym same)))
 
 -- the first cell with one more, where that comes before
-pub first_with : (cells : List Cell) (c first : Cell) → IsFirstCell first (listed cells) → cell_cmp c first ≡ Less → IsFirstCell c (listed (cells ++ c ∷ []))
+pub first_with : (cells : List Cell) (c first : Cell) → IsFirstLive (listed cells) first → cell_cmp c first ≡ Less → IsFirstLive (listed (cells ++ c ∷ [])) c
 first_with cells c first h less = record {
-  lives = listed_right cells (c ∷ []) c (listed_one c);
-  none_before = λ d before lives. by d before (listed_cases cells (c ∷ []) d lives);
+  is = listed_right cells (c ∷ []) c (listed_one c);
+  none_before = λ x y lives before. by (cell x y) before (listed_cases cells (c ∷ []) (cell x y) lives);
 }
   where
     by : (d : Cell) → cell_cmp d c ≡ Less → Lives (listed cells) d ⊎ Lives (listed (c ∷ [])) d → ⊥
-    by d before (inl lives) = h.none_before d (cells_total.trans d c first before less) lives
+    by d before (inl lives) = h.none_before d.x d.y lives (cells_total.trans d c first before less)
     by d before (inr lives) = let same = only_one c d lives in not_both d c before (ap (λ e. cell_cmp c e) (sym same) ∙ ap (λ e. cell_cmp e c) same ∙ before)
 
 -- and where it doesn't
-pub first_kept : (cells : List Cell) (c first : Cell) → IsFirstCell first (listed cells) → is_lt (cell_cmp c first) ≡ false → IsFirstCell first (listed (cells ++ c ∷ []))
+pub first_kept : (cells : List Cell) (c first : Cell) → IsFirstLive (listed cells) first → is_lt (cell_cmp c first) ≡ false → IsFirstLive (listed (cells ++ c ∷ [])) first
 first_kept cells c first h later = record {
-  lives = listed_left cells (c ∷ []) first h.lives;
-  none_before = λ d before lives. by d before (listed_cases cells (c ∷ []) d lives);
+  is = listed_left cells (c ∷ []) first h.is;
+  none_before = λ x y lives before. by (cell x y) before (listed_cases cells (c ∷ []) (cell x y) lives);
 }
   where
     by : (d : Cell) → cell_cmp d first ≡ Less → Lives (listed cells) d ⊎ Lives (listed (c ∷ [])) d → ⊥
-    by d before (inl lives) = h.none_before d before lives
+    by d before (inl lives) = h.none_before d.x d.y lives before
     by d before (inr lives) =
         let same = only_one c d lives in
         let less : is_lt (cell_cmp c first) ≡ true = ap is_lt (ap (λ e. cell_cmp e first) same ∙ before) in cc

@@ -10,7 +10,8 @@ use Rattle.life_islands.specs.declared.island.Island.{Island}
 use Rattle.life_islands.specs.Islands.{IsIsland, IsNoted, IsInOne, AreIslands, rest_of}
 use Rattle.life_islands.specs.Joined.{Lives}
 use Rattle.life_islands.specs.JoinedLaws.{joined_step}
-use Rattle.life_islands.specs.Order.{IsFirstCell, ComesBefore, AreInOrder}
+use Rattle.life_cells.specs.Firsts.{IsFirstLive}
+use Rattle.life_islands.specs.Order.{ComesBefore, AreInOrder}
 use Rattle.life_islands.specs.OrderLaws.{one_first_cell, one_comes_before, not_before_itself}
 use Rattle.life_plane.specs.Plane.{Plane, step, union, IsStill, same_plane}
 use Rattle.life_plane.specs.Apart.{Apart, Within, Live, Dead, live_or_dead, dead_step, step_union}
@@ -136,7 +137,7 @@ pub same_noted : (s : Plane) (a b : Island) (c : Cell) → IsNoted s a → IsNot
 same_noted s a b c h k in_a in_b =
     let planes : alive a.cells ≡ alive b.cells = sharing_islands s (alive a.cells) (alive b.cells) h.is k.is c in_a in_b in
     let cells : a.cells ≡ b.cells = same_cells a.cells b.cells planes in
-    let first : a.first ≡ b.first = one_first_cell (alive b.cells) a.first b.first (subst (IsFirstCell a.first) planes h.first) k.first in
+    let first : a.first ≡ b.first = one_first_cell (alive b.cells) a.first b.first (subst (λ (p : Plane). IsFirstLive p a.first) planes h.first) k.first in
     λ i. record { cells = cells i; first = first i }
 
 -- the island is one of these
@@ -150,7 +151,7 @@ noted_among s a c (b ∷ islands) h lives each (inl there) = inl (same_noted s b
 noted_among s a c (b ∷ islands) h lives each (inr there) = inr (noted_among s a c islands h lives each.1 there)
 
 all_among : (s : Plane) (a : Island) (islands : List Island) → IsNoted s a → AreIslands s islands → IsAmong islands a
-all_among s a islands h are = noted_among s a a.first islands h h.first.lives are.each (are.all a.first (h.is.within a.first h.first.lives))
+all_among s a islands h are = noted_among s a a.first islands h h.first.is are.each (are.all a.first (h.is.within a.first h.first.is))
 
 pub each_among : (P : Island → Type 0) (islands : List Island) (a : Island) → AllByRecursion P islands → IsAmong islands a → P a
 each_among P [] a each there = absurd there

@@ -5,7 +5,8 @@ use Rattle.life_cells.specs.Cells.{alive}
 use Rattle.life_cells.specs.declared.cell.Cell.{Cell}
 use Rattle.life_islands.specs.declared.island.Island.{Island}
 use Rattle.life_islands.specs.Joined.{Lives, AreJoined}
-use Rattle.life_islands.specs.Order.{IsFirstCell, AreInOrder}
+use Rattle.life_cells.specs.Firsts.{IsFirstLive}
+use Rattle.life_islands.specs.Order.{AreInOrder}
 use Rattle.life_plane.specs.Plane.{Plane}
 
 -- a part of a plane that is an island of it: it lives, its cells live in the plane and are joined there, and what is joined with one
@@ -27,7 +28,7 @@ rest_of s part x y = s x y && not (part x y)
 -- the cells are an island of the plane, and the first of them is noted
 pub record IsNoted (s : Plane) (island : Island) : Type 0 where
   pub is : IsIsland s (alive island.cells)
-  pub first : IsFirstCell island.first (alive island.cells)
+  pub first : IsFirstLive (alive island.cells) island.first
 
 -- the cell lives in one of the islands
 abbrev pub IsInOne : List Island → Cell → Type 0

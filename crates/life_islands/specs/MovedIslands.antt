@@ -13,7 +13,8 @@ use Rattle.life_islands.specs.declared.island.Island.{Island}
 use Rattle.life_islands.specs.Islands.{IsIsland, IsNoted, IsInOne, AreIslands}
 use Rattle.life_islands.specs.IslandLaws.{IsAmong, each_among, sharing_islands}
 use Rattle.life_islands.specs.Joined.{Lives, Steps, LeadsBy, AreJoined}
-use Rattle.life_islands.specs.Order.{IsGreatestU, IsFirstCell, ComesBefore, AreInOrder}
+use Rattle.life_cells.specs.Firsts.{IsFirstLive}
+use Rattle.life_islands.specs.Order.{IsGreatestU, ComesBefore, AreInOrder}
 use Rattle.life_islands.specs.OrderLaws.{one_first_cell, one_comes_before, not_before_itself}
 use Rattle.life_plane.specs.Plane.{Plane, shift}
 
@@ -99,8 +100,8 @@ moved_before dx dy c d less = elim (comes_before c d less) [
   | inr level ↦ let row = level.0 in let left = level.1 in before_in_row (moved dx dy c) (moved dx dy d) (omega (arith, ints)) (omega (arith, ints))
 ]
 
-first_moves : (dx dy : ℤ) (t : Plane) (c : Cell) → IsFirstCell c t → IsFirstCell (moved dx dy c) (shift dx dy t)
-first_moves dx dy t c h = record { lives = moved_lives dx dy t c h.lives; none_before = λ d less lives. h.none_before (origin dx dy d) (origin_before dx dy d c less) lives }
+first_moves : (dx dy : ℤ) (t : Plane) (c : Cell) → IsFirstLive t c → IsFirstLive (shift dx dy t) (moved dx dy c)
+first_moves dx dy t c h = record { is = moved_lives dx dy t c h.is; none_before = λ x y lives less. h.none_before (x -ℤ dx) (y -ℤ dy) lives (origin_before dx dy (cell x y) c less) }
 
 greatest_moves : (dx dy : ℤ) (t : Plane) (u : ℤ) → IsGreatestU u t → IsGreatestU ((u +ℤ dx) -ℤ dy) (shift dx dy t)
 greatest_moves dx dy t u h = record {
@@ -131,7 +132,7 @@ is_moved dx dy s a b c h k in_a in_b =
     let cells = sharing_islands (shift dx dy s) (alive b.cells) (shift dx dy (alive a.cells)) k.is (island_moves dx dy s (alive a.cells) h.is) (moved dx dy c) in_b (moved_lives dx dy (alive a.cells) c in_a) in
     record {
       cells = cells;
-      first = one_first_cell (shift dx dy (alive a.cells)) b.first (moved dx dy a.first) (subst (IsFirstCell b.first) cells k.first) (first_moves dx dy (alive a.cells) a.first h.first);
+      first = one_first_cell (shift dx dy (alive a.cells)) b.first (moved dx dy a.first) (subst (λ (p : Plane). IsFirstLive p b.first) cells k.first) (first_moves dx dy (alive a.cells) a.first h.first);
     }
 
 -- an island moves to one
@@ -206,10 +207,10 @@ islands_move dx dy s islands others h k = lists_move dx dy islands others h.in_o
     goes : (a : Island) → IsAmong islands a → Goes dx dy others a
     goes a among =
         let is = each_among (IsNoted s) islands a h.each among in
-        goes_in dx dy s a a.first others is is.first.lives k.each (k.all (moved dx dy a.first) (moved_lives dx dy s a.first (is.is.within a.first is.first.lives)))
+        goes_in dx dy s a a.first others is is.first.is k.each (k.all (moved dx dy a.first) (moved_lives dx dy s a.first (is.is.within a.first is.first.is)))
 
     comes : (b : Island) → IsAmong others b → Comes dx dy islands b
     comes b among =
         let is = each_among (IsNoted (shift dx dy s)) others b k.each among in
-        let lives : Lives (alive b.cells) (moved dx dy (origin dx dy b.first)) = subst (λ c. Lives (alive b.cells) c) (sym (moved_origin dx dy b.first)) is.first.lives in
-        comes_in dx dy s b (origin dx dy b.first) islands is lives h.each (h.all (origin dx dy b.first) (is.is.within b.first is.first.lives))
+        let lives : Lives (alive b.cells) (moved dx dy (origin dx dy b.first)) = subst (λ c. Lives (alive b.cells) c) (sym (moved_origin dx dy b.first)) is.first.is in
+        comes_in dx dy s b (origin dx dy b.first) islands is lives h.each (h.all (origin dx dy b.first) (is.is.within b.first is.first.is))

@@ -14,11 +14,6 @@ pub record IsGreatestU (u : ℤ) (s : Plane) : Type 0 where
   pub each : (c : Cell) → Lives s c → (c.x -ℤ c.y) ≤ℤ u
   pub there : (c : Cell) × (Lives s c × (c.x -ℤ c.y ≡ u))
 
--- the first of the plane's cells, by y and then by x: it lives, and none before it does
-pub record IsFirstCell (first : Cell) (s : Plane) : Type 0 where
-  pub lives : Lives s first
-  pub none_before : (c : Cell) → cell_cmp c first ≡ Less → Lives s c → ⊥
-
 -- an island comes before another
 pub record ComesBefore (a b : Island) : Type 0 where
   pub u : ℤ

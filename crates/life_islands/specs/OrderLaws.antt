@@ -1,5 +1,5 @@
 -- The laws of the order of islands.
-use Rattle.std.specs.Prelude.{◌≡◌, ◌⊎◌, ℤ, ◌<ℤ◌}
+use Rattle.std.specs.Prelude.{◌≡◌, ◌⊎◌, true, ℤ, ◌<ℤ◌}
 use Rattle.std.proofs.Common.{refl, ap, ◌∙◌, arith, inl, inr}
 use Rattle.std.proofs.lemmas.Int.{ints}
 use Rattle.std.specs.declared.cmp.Ordering.{Ordering}
@@ -9,7 +9,9 @@ use Rattle.life_cells.specs.Cells.{alive, cell_cmp}
 use Rattle.life_cells.specs.Order.{cells_total, cells_antisymmetric}
 use Rattle.life_cells.specs.declared.cell.Cell.{Cell}
 use Rattle.life_islands.specs.declared.island.Island.{Island}
-use Rattle.life_islands.specs.Order.{IsGreatestU, IsFirstCell, ComesBefore}
+use Rattle.life_cells.specs.Firsts.{IsFirstLive}
+use Rattle.life_cells.specs.FirstLaws.{one_first}
+use Rattle.life_islands.specs.Order.{IsGreatestU, ComesBefore}
 use Rattle.life_plane.specs.Plane.{Plane}
 
 -- a plane has one greatest u
@@ -22,13 +24,8 @@ one_greatest_u s u v h k =
     omega (arith, ints)
 
 -- a plane has one first cell
-pub one_first_cell : (s : Plane) (a b : Cell) → IsFirstCell a s → IsFirstCell b s → a ≡ b
-one_first_cell s a b h k = by (cell_cmp a b) refl
-  where
-    by : (o : Ordering) → cell_cmp a b ≡ o → a ≡ b
-    by Less e = absurd (k.none_before a e h.lives)
-    by Equal e = cells_antisymmetric a b e
-    by Greater e = absurd (h.none_before b (cells_total.antisymm b a ∙ ap ordering_reverse e) k.lives)
+pub one_first_cell : (s : Plane) (a b : Cell) → IsFirstLive s a → IsFirstLive s b → a ≡ b
+one_first_cell s a b h k = one_first (λ x y. s x y ≡ true) a b h k
 
 pub not_both : (a b : Cell) → cell_cmp a b ≡ Less → cell_cmp b a ≡ Less → ⊥
 not_both a b h k = let e : cell_cmp b a ≡ Greater = cells_total.antisymm b a ∙ ap ordering_reverse h in cc

@@ -5,14 +5,15 @@ use Rattle.life_cells.specs.Cells.{Cells, alive}
 use Rattle.life_cells.specs.declared.cell.Cell.{Cell}
 use Rattle.life_islands.specs.Islands.{IsIsland}
 use Rattle.life_islands.specs.Joined.{Lives}
-use Rattle.life_islands.specs.Order.{IsGreatestU, IsFirstCell}
+use Rattle.life_cells.specs.Firsts.{IsFirstLive}
+use Rattle.life_islands.specs.Order.{IsGreatestU}
 use Rattle.life_islands.specs.declared.rank.Rank.{Rank}
 use Rattle.life_plane.specs.Plane.{Plane}
 
 -- the rank of a plane: its greatest u, negated, and its first cell
 pub record IsRankOf (rank : Rank) (s : Plane) : Type 0 where
   pub greatest : IsGreatestU (neg_ℤ rank.minus_u) s
-  pub first : IsFirstCell rank.first s
+  pub first : IsFirstLive s rank.first
 
 -- the set under a rank is an island of the plane, and the rank is its own
 pub record IsRanked (s : Plane) (entry : Rank × Cells) : Type 0 where

@@ -16,7 +16,8 @@ use Rattle.rle_items.specs.declared.item.Tag.{Tag}
 use Rattle.rle_items.specs.declared.item.Tag.TheVariants.{Dead, Alive, RowEnd}
 use Rattle.life_rle.specs.Written.{IsFrame, IsTidy, IsTidyAfter}
 use Rattle.life_rle.specs.Drawn.{IsBehind, StartsAfter, IsTidyFrom}
-use Rattle.life_rle.proofs.Growing.{listed_here, either}
+use Rattle.life_cells.specs.PlaceLaws.{listed_here}
+use Rattle.life_rle.proofs.Growing.{either}
 
 -- a box with its sides in order and in the range
 pub record IsNearBox (box : Bounds) : Type 0 where

@@ -12,6 +12,7 @@ use Rattle.life_cells.specs.Cells.{cell, cell_cmp, IsRising}
 use Rattle.life_cells.specs.Boxes.{IsInRange}
 use Rattle.life_cells.specs.Listed.{listed, same_cell}
 use Rattle.life_cells.specs.Laws.{listed-append_at}
+use Rattle.life_cells.specs.PlaceLaws.{each_listed}
 use Rattle.life_cells.specs.Order.{same_cell_is, same_cell-itself, comes_before, rising_head, rising_tail}
 use Rattle.rle_items.specs.declared.item.Item.{Item}
 use Rattle.rle_items.specs.declared.item.Tag.{Tag}
@@ -305,16 +306,6 @@ drawn_small left top done items run pen d = small_some items run Alive d.small d
 
 abbrev pub AreNext : ℤ → Cell → List Cell → Type 0
 AreNext left pen cs = AllByRecursion (IsNext left pen) cs
-
-pub listed_here : (c : Cell) (cs : List Cell) → listed (c ∷ cs) c.x c.y ≡ true
-listed_here c cs = or_first _ _ (same_cell-itself c)
-
-listed_there : (c : Cell) (cs : List Cell) (x y : ℤ) → listed cs x y ≡ true → listed (c ∷ cs) x y ≡ true
-listed_there c cs x y h = or_second (same_cell (cell x y) c) _ h
-
-pub each_listed : (P : Cell → Type 0) (cs : List Cell) → ((c : Cell) → listed cs c.x c.y ≡ true → P c) → AllByRecursion P cs
-each_listed P [] f = tt
-each_listed P (c ∷ cs) f = (f c (listed_here c cs), each_listed P cs (λ d h. f d (listed_there c cs d.x d.y h)))
 
 -- at the start each cell is to come
 pub next_all : (left top : ℤ) (cs : List Cell) → IsBehind left top (listed cs) → IsInRange (2 ^ 58) (listed cs) → AreNext left (cell left top) cs

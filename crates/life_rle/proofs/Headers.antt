@@ -9,7 +9,7 @@ use Rattle.rle_items.specs.Faults.{IsAtCount}
 use Rattle.rle_items.specs.SpellingLaws.{one_count, digit_range}
 use Rattle.life_rle.specs.Blanks.{is_blank_byte, IsBlank, IsPassedOver}
 use Rattle.life_rle.specs.Header.{IsPast, IsPastNumber, IsPastValue, BeginsWithSize, GivesRule, IsRuleName, NamesLife, HasHeaderForm, IsHeader}
-use Rattle.life_rle.specs.Readers.{IsPastBlanks, BeginsInked, IsWordOf}
+use Rattle.life_rle.specs.HeaderRead.{IsPastBlanks, BeginsInked, IsWordOf}
 use Rattle.life_rle.proofs.Firsts.{cut_at, none_passes}
 
 pub if_some : {X : Type 0} (P : Type 0) (Q : X → Type 0) (r : Option X) → MatchOption r P Q → IfSome r Q

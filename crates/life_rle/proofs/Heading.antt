@@ -15,7 +15,7 @@ use Rattle.life_rle.specs.Blanks.{is_blank_byte, IsBlank}
 use Rattle.life_rle.specs.Header.{IsPastValue, GivesRule, NamesLife, IsHeader}
 use Rattle.life_rle.specs.Text.{words, IsPlaceIn}
 use Rattle.life_rle.specs.Written.{place_line, header_line}
-use Rattle.life_rle.proofs.Bytes.{both, not_false, all_append, decimal_natural, decimal_digits, decimal_value, decimal_passes, small_fits, is_inner, inner_digit, is_word_byte, word_digit}
+use Rattle.life_rle.specs.ByteLaws.{both, not_false, all_append, decimal_natural, decimal_digits, decimal_value, decimal_passes, small_fits, is_inner, inner_digit, is_word_byte, word_digit}
 
 -- ---- whole numbers
 

@@ -15,9 +15,6 @@ pub mod OneText
 -- Lemmas of the writer.
 pub mod Made
 pub mod Growing
-pub mod Bytes
-pub mod Lining
-pub mod Spelled
 pub mod Heading
 pub mod Framing
 pub mod ReadBack

@@ -9,7 +9,7 @@ use Rattle.std.proofs.lemmas.List.Sums.{split_at_first, passes_at_first, fails_b
 use Rattle.std.proofs.lemmas.Bool.{cases_lt, ne_eqb, eqb-true, eq-eqb}
 use Rattle.life_rle.specs.Lines.{is_line_feed, front, first_line, behind, BeginsWithLines, EndsWith}
 use Rattle.life_rle.proofs.Firsts.{all_at}
-use Rattle.life_rle.proofs.Lining.{split_some}
+use Rattle.life_rle.specs.LineLaws.{split_some}
 
 -- ---- one line
 

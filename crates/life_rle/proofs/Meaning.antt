@@ -8,7 +8,8 @@ use Rattle.life_rle.specs.Lines.{EndsWith}
 use Rattle.life_rle.specs.Blanks.{blanked}
 use Rattle.life_rle.specs.Text.{HasBody, Says, Means}
 use Rattle.life_rle.specs.TextFaults.{IsFineText}
-use Rattle.life_rle.specs.Readers.{seen, seen_from, IsRead}
+use Rattle.life_rle.specs.Comments.{seen, seen_from}
+use Rattle.life_rle.specs.ItemsRead.{IsRead}
 use Rattle.life_rle.proofs.Lined.{lines_end, ends_on, behind_ends, behind_begins}
 use Rattle.life_rle.proofs.Seen.{ends_line-append, seen_at, blanked_is}
 use Rattle.life_rle.proofs.TextSoFar.{fine_square}

@@ -15,10 +15,10 @@ use Rattle.life_rle.specs.Text.{Says, Means}
 use Rattle.life_rle.specs.TextFaults.{IsFineText}
 use Rattle.life_rle.specs.Written.{IsRleText, place_line, note_line, header_line, folded, pieces, HasNoLineBreak}
 use Rattle.life_rle.specs.Drawn.{AreSmall, IsSmallFrame}
-use Rattle.life_rle.proofs.Bytes.{first, second, all_append, is_item_byte}
+use Rattle.life_rle.specs.ByteLaws.{first, second, all_append, is_item_byte}
 use Rattle.life_rle.proofs.Heading.{IsNear}
 use Rattle.life_rle.proofs.Seen.{HasNoHash, blanked_same}
-use Rattle.life_rle.proofs.Spelled.{folded_spelled, folded_passes, word_spelled, word_whole}
+use Rattle.life_rle.specs.SpellingLaws.{folded_spelled, folded_passes, word_spelled, word_whole}
 use Rattle.life_rle.proofs.WrittenFine.{place_half, size_small, written_fine, written_small}
 use Rattle.life_rle.proofs.WrittenLines.{written_body}
 
@@ -51,11 +51,6 @@ written_means place note width height items s f n small c =
     let x : IsNear place.x = record { low = f.left; high = f.x_high } in
     let y : IsNear place.y = record { low = f.top; high = f.y_high } in
     record { place = place; items = items; says = text_says place note width height items x y n f.width_small f.height_small small; cells = c }
-
--- ---- a word
-
-pub word_means : (items : List Item) (s : Plane) → AreSmall items → AreCells (cell (pos 0) (pos 0)) items s → WordMeans (flat_map (λ piece. piece) (pieces items)) s
-word_means items s small c = record { items = items; written = _; whole = word_whole items; items_are = word_spelled items small; cells = c }
 
 -- ---- within the limits
 

@@ -12,7 +12,7 @@ use Rattle.rle_items.specs.Spelling.{IsWhite, is_white}
 use Rattle.rle_items.specs.SpellingLaws.{digit_range, white_no_digit}
 use Rattle.life_rle.specs.Lines.{is_line_feed, front, behind, EndsWith}
 use Rattle.life_rle.specs.Blanks.{is_comment, blank_comment, blanked}
-use Rattle.life_rle.specs.Readers.{ends_line, begins_line, seen, seen_from, BeginsComment}
+use Rattle.life_rle.specs.Comments.{ends_line, begins_line, seen, seen_from, BeginsComment}
 use Rattle.life_rle.proofs.Lined.{feed_or_not, front_inner, whole_inner}
 
 -- ---- one byte

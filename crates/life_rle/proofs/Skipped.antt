@@ -7,7 +7,7 @@ use Rattle.rle_items.specs.Spelling.{IsWhite, is_white}
 use Rattle.rle_items.specs.SpellingLaws.{join_white}
 use Rattle.life_rle.specs.Lines.{behind, EndsWith}
 use Rattle.life_rle.specs.TextFaults.{IsPastWhite}
-use Rattle.life_rle.specs.Readers.{ends_line, seen_from, BeginsComment}
+use Rattle.life_rle.specs.Comments.{ends_line, seen_from, BeginsComment}
 use Rattle.life_rle.proofs.Firsts.{cut_at, none_passes}
 use Rattle.life_rle.proofs.Lined.{ends_on, behind_ends, behind_short}
 use Rattle.life_rle.proofs.Seen.{white_no_hash, seen_behind, ends_line-append, IsBlankTo, comment_seen, seen_head}

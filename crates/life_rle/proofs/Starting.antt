@@ -15,7 +15,8 @@ use Rattle.life_rle.specs.Blanks.{IsPassedOver}
 use Rattle.life_rle.specs.Text.{gives_place, IsPlaceIn, IsPlace, words, IsAtHeader, HasBody}
 use Rattle.rle_items.specs.Faults.{BeginsAt}
 use Rattle.life_rle.specs.TextFaults.{HasPlaceLine, HasFarPlace, StartStopsWith}
-use Rattle.life_rle.specs.Readers.{HasFound, IsOpened, Gives, GivesFar, PlaceIsRefused, HeaderIsRefused}
+use Rattle.life_rle.specs.Opened.{HasFound, IsOpened, Gives, GivesFar, PlaceIsRefused}
+use Rattle.life_rle.specs.HeaderRead.{HeaderIsRefused}
 use Rattle.life_rle.proofs.Lined.{lines_push, lines_split, each_push, behind_short}
 
 -- ---- what was found

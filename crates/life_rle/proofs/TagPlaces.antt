@@ -9,7 +9,8 @@ use Rattle.rle_items.specs.Faults.{BeginsAt, IsAtCount}
 use Rattle.rle_items.specs.SpellingLaws.{join_white, dark_byte}
 use Rattle.life_rle.specs.Lines.{EndsWith}
 use Rattle.life_rle.specs.TextFaults.{IsPastWhite, IsAtTag, HasBadDigits, HasStrayByte, EndsBeforeTag}
-use Rattle.life_rle.specs.Readers.{seen_from, IsItemAt, IsEndBehind}
+use Rattle.life_rle.specs.Comments.{seen_from}
+use Rattle.life_rle.specs.ItemsRead.{IsItemAt, IsEndBehind}
 use Rattle.life_rle.proofs.Lined.{ends_on}
 use Rattle.life_rle.proofs.Seen.{digits_no_hash, seen_behind, seen_dark, seen_no_digit, seen_from_length}
 

@@ -23,7 +23,8 @@ use Rattle.rle_items.specs.Faults.{BeginsAt}
 use Rattle.life_rle.specs.TextFaults.{IsBodyReadTo, IsItemFault, ItemsStopWith}
 use Rattle.life_rle.specs.Blanks.{blanked}
 use Rattle.rle_items.specs.Cursor.{IsBehind, HasRoom, HasMoved, item_cells}
-use Rattle.life_rle.specs.Readers.{seen_from, IsItemAt, IsEndBehind, IsWithinFrom, PassesFrom, IsRead}
+use Rattle.life_rle.specs.Comments.{seen_from}
+use Rattle.life_rle.specs.ItemsRead.{IsItemAt, IsEndBehind, IsWithinFrom, PassesFrom, IsRead}
 use Rattle.rle_items.specs.DrawnCells.{IsDrawn, drawn_none, drawn_push}
 use Rattle.life_rle.proofs.Seen.{seen_from_length}
 

@@ -16,7 +16,8 @@ use Rattle.life_rle.specs.Text.{Means}
 use Rattle.life_rle.specs.Written.{IsFrame, IsTidyAfter, IsTidyBody, IsRleText, IsBodyText, HasNoLineBreak, place_line, note_line, header_line, folded, pieces}
 use Rattle.life_rle.specs.Drawn.{IsBehind, StartsAfter, IsTidyFrom, AreSmall, IsSmallFrame}
 use Rattle.life_rle.proofs.Framing.{tidy_framed}
-use Rattle.life_rle.proofs.ReadBack.{written_means, word_means}
+use Rattle.life_rle.specs.SpellingLaws.{word_means}
+use Rattle.life_rle.proofs.ReadBack.{written_means}
 
 -- what lives is what is listed in order
 pub alive_listed : (s : Cells) (cs : List Cell) → cs ≡ in_order s → alive s ≡ listed cs

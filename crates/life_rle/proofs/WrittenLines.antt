@@ -11,9 +11,9 @@ use Rattle.life_rle.specs.Lines.{is_line_feed, front, first_line, behind, Begins
 use Rattle.life_rle.specs.Blanks.{is_comment, IsPassedOver}
 use Rattle.life_rle.specs.Header.{IsHeader}
 use Rattle.life_rle.specs.Text.{IsPlace, HasBody}
-use Rattle.life_rle.proofs.Bytes.{both, first, second, all_append, is_inner}
+use Rattle.life_rle.specs.ByteLaws.{both, first, second, all_append, is_inner}
 use Rattle.life_rle.proofs.Lined.{has_feed}
-use Rattle.life_rle.proofs.Lining.{strip_same, neither_first, neither_second}
+use Rattle.life_rle.specs.LineLaws.{strip_same, neither_first, neither_second}
 use Rattle.life_rle.proofs.Headers.{header_not_passed}
 use Rattle.life_rle.proofs.Heading.{IsNear, place_text, place_line_is, place_is_read, place_text_inner, header_text, header_line_is, header_text_inner, header_is_read}
 

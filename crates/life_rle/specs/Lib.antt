@@ -5,6 +5,12 @@ pub mod Header
 pub mod Text
 pub mod TextFaults
 pub mod Told
-pub mod Readers
+pub mod Opened
+pub mod HeaderRead
+pub mod Comments
+pub mod ItemsRead
 pub mod Written
 pub mod Drawn
+pub mod ByteLaws
+pub mod LineLaws
+pub mod SpellingLaws

@@ -5,7 +5,7 @@ ghost use Rattle.std.specs.List.{position};
 ghost use Rattle.rle_items.specs.Spelling.{is_white};
 ghost use Rattle.life_rle.specs.Lines.{EndsWith};
 ghost use Rattle.life_rle.specs.TextFaults.{IsPastWhite};
-ghost use Rattle.life_rle.specs.Readers.{begins_line, seen_from, BeginsComment};
+ghost use Rattle.life_rle.specs.Comments.{begins_line, seen_from, BeginsComment};
 
 use crate::passed::split_line;
 

@@ -5,7 +5,7 @@ ghost use Rattle.std.specs.List.{position};
 ghost use Rattle.std.specs.Char.{to_ascii_lowercase};
 ghost use Rattle.life_rle.specs.Blanks.{is_blank_byte};
 ghost use Rattle.life_rle.specs.Header.{IsPast, IsPastNumber, IsPastValue, BeginsWithSize, GivesRule, IsHeader, NamesLife};
-ghost use Rattle.life_rle.specs.Readers.{IsPastBlanks, BeginsInked, IsWordOf, HasForm, HeaderIsRefused};
+ghost use Rattle.life_rle.specs.HeaderRead.{IsPastBlanks, BeginsInked, IsWordOf, HasForm, HeaderIsRefused};
 
 use crate::error::RleError;
 use crate::passed::{is_blank, is_blank_byte};

@@ -3,7 +3,7 @@
 ghost use Rattle.std.specs.Prelude.{OnOk, IfErr};
 ghost use Rattle.rle_items.specs.Cursor.{HasMoved};
 ghost use Rattle.rle_items.specs.Reach.{IsInReach};
-ghost use Rattle.life_rle.specs.Readers.{IsWithinFrom, PassesFrom};
+ghost use Rattle.life_rle.specs.ItemsRead.{IsWithinFrom, PassesFrom};
 
 use crate::error::RleError;
 use life_cells::Cell;

@@ -7,7 +7,8 @@ ghost use Rattle.life_rle.specs.Text.{Means};
 ghost use Rattle.life_rle.specs.Lines.{EndsWith};
 ghost use Rattle.rle_items.specs.Reach.{IsInReach};
 ghost use Rattle.life_rle.specs.Blanks.{blanked};
-ghost use Rattle.life_rle.specs.Readers.{seen_from, IsRead};
+ghost use Rattle.life_rle.specs.Comments.{seen_from};
+ghost use Rattle.life_rle.specs.ItemsRead.{IsRead};
 ghost use Rattle.life_rle.specs.TextFaults.{IsFineText, ItemsStopWith, TextStopsWith};
 
 use crate::error::RleError;

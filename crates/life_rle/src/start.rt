@@ -6,7 +6,7 @@ ghost use Rattle.life_rle.specs.Blanks.{IsPassedOver};
 ghost use Rattle.rle_items.specs.Reach.{IsInReach};
 ghost use Rattle.life_rle.specs.Text.{HasBody};
 ghost use Rattle.life_rle.specs.TextFaults.{StartStopsWith};
-ghost use Rattle.life_rle.specs.Readers.{IsOpened, Gives, PlaceIsRefused};
+ghost use Rattle.life_rle.specs.Opened.{IsOpened, Gives, PlaceIsRefused};
 
 use crate::error::RleError;
 use crate::header::check_header;

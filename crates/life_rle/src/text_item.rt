@@ -6,7 +6,8 @@ ghost use Rattle.rle_items.specs.declared.item.Item.{Item};
 ghost use Rattle.rle_items.specs.Spelling.{IsCount};
 ghost use Rattle.life_rle.specs.Lines.{EndsWith};
 ghost use Rattle.life_rle.specs.TextFaults.{IsAtTag, IsItemFault};
-ghost use Rattle.life_rle.specs.Readers.{seen_from, IsItemAt, IsEndBehind};
+ghost use Rattle.life_rle.specs.Comments.{seen_from};
+ghost use Rattle.life_rle.specs.ItemsRead.{IsItemAt, IsEndBehind};
 
 use crate::error::RleError;
 use crate::gaps::skip_gap;

@@ -12,7 +12,7 @@ use Rattle.life_cells.specs.Laws.{alive-empty, same_cells}
 use Rattle.life_islands.specs.Islands.{IsOneIsland}
 use Rattle.recipe_hit.specs.Sound.{IsWhole}
 use Rattle.recipe_hit.specs.SalvoRefusals.{IsFirstNear}
-use Rattle.recipe_hit.proofs.Places.{each_live}
+use Rattle.life_cells.specs.PlaceLaws.{each_live}
 
 -- nothing is whole
 pub whole_if_empty : (s : Cells) → s ≡ empty → IsTrue true ↔ IsWhole (alive s)

@@ -7,7 +7,6 @@ pub mod Hitting
 pub mod OneHit
 pub mod Earlier
 pub mod Nearness
-pub mod Places
 pub mod Ends
 pub mod InTurn
 pub mod Missing

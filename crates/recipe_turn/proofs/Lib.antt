@@ -1,5 +1,4 @@
 -- Lemmas on places of a set's cells, first cells, tests of numbers, a turn's gliders, gaps and bounds.
-pub mod Places
 pub mod Comparisons
 pub mod Delays
 pub mod Spacing

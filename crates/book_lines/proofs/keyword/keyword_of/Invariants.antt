@@ -1,5 +1,4 @@
-use Rattle.std.proofs.Common.{rules, ◌≡◌, ◌≢◌, ◌<◌, ◌+◌, ◌⊎◌, inl, inr, ℕ, ℤ, List, length, codes, [], ◌∷◌, ◌++◌, refl, take, drop, arith, ap, subst, sym, ◌∙◌, Option, Some, None, true, false, tests}
-use Rattle.book_lines.specs.Lines.{texts, HaveNoColon}
+use Rattle.std.proofs.Common.{◌≡◌, ◌<◌, ℕ}
 use Rattle.book_lines.proofs.keyword.keyword_of.Given as goal
 use Rattle.std.proofs.Common.{get_or}
 use Rattle.book_lines.specs.declared.keyword.Keyword.TheVariants as first

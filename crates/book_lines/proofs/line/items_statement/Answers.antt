@@ -1,7 +1,6 @@
-use Rattle.std.proofs.Common.{rules, ◌≡◌, ◌≢◌, ◌<◌, ◌+◌, ◌⊎◌, inl, inr, ℕ, ℤ, List, length, codes, [], ◌∷◌, ◌++◌, refl, take, drop, arith, ap, subst, sym, ◌∙◌, Option, Some, None, true, false, tests}
-use Rattle.book_lines.specs.Lines.{texts, HaveNoColon}
+use Rattle.std.proofs.Common.{rules, ℕ, ℤ, List, refl, tests}
+use Rattle.book_lines.specs.Lines.{texts}
 use Rattle.book_lines.proofs.line.items_statement.Goals as goal
-use Rattle.std.proofs.Common.{Result, Ok, Err, MatchResult, IsOkAnd}
 use Rattle.life_cells.specs.declared.cell.Cell.{Cell}
 use Rattle.book_lines.specs.declared.keyword.Keyword.TheVariants as first
 use Rattle.book_lines.specs.declared.statement.Body.{Body}

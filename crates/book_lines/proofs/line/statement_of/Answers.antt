@@ -1,5 +1,5 @@
-use Rattle.std.proofs.Common.{rules, ◌≡◌, ◌≢◌, ◌<◌, ◌+◌, ◌⊎◌, inl, inr, ℕ, ℤ, List, length, codes, [], ◌∷◌, ◌++◌, refl, take, drop, arith, ap, subst, sym, ◌∙◌, Option, Some, None, true, false, tests}
-use Rattle.book_lines.specs.Lines.{texts, HaveNoColon}
+use Rattle.std.proofs.Common.{◌≡◌, ◌∷◌, ap, sym, ◌∙◌}
+use Rattle.book_lines.specs.Lines.{texts}
 use Rattle.book_lines.proofs.line.statement_of.Goals as goal
 use Rattle.book_lines.specs.Lines.{words}
 use Rattle.book_lines.proofs.Saying.{line_ok, line_err, no_first, no_keyword}

@@ -1,7 +1,5 @@
-use Rattle.std.proofs.Common.{rules, ◌≡◌, ◌≢◌, ◌<◌, ◌+◌, ◌⊎◌, inl, inr, ℕ, ℤ, List, length, codes, [], ◌∷◌, ◌++◌, refl, take, drop, arith, ap, subst, sym, ◌∙◌, Option, Some, None, true, false, tests}
-use Rattle.book_lines.specs.Lines.{texts, HaveNoColon}
+use Rattle.std.proofs.Common.{Some}
 use Rattle.book_lines.proofs.salvo.is_product.Goals as goal
-use Rattle.book_lines.specs.declared.statement.Placed.{Placed}
 use Rattle.book_lines.proofs.Cutting.{product_down}
 use Rattle.book_lines.specs.Values.{Level}
 

@@ -1,5 +1,5 @@
-use Rattle.std.proofs.Common.{rules, ◌≡◌, ◌≢◌, ◌<◌, ◌+◌, ◌⊎◌, inl, inr, ℕ, ℤ, List, length, codes, [], ◌∷◌, ◌++◌, refl, take, drop, arith, ap, subst, sym, ◌∙◌, Option, Some, None, true, false, tests}
-use Rattle.book_lines.specs.Lines.{texts, HaveNoColon}
+use Rattle.std.proofs.Common.{ℕ, List, codes, ◌∷◌, ◌++◌, ap, subst, sym, ◌∙◌}
+use Rattle.book_lines.specs.Lines.{texts}
 use Rattle.book_lines.proofs.salvo.salvo_items.Goals as goal
 use Rattle.std.proofs.lemmas.Bool.{false≢true}
 use Rattle.book_lines.specs.Values.{Level, AreNumbersAt}

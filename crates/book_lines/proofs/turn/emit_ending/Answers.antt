@@ -1,5 +1,5 @@
-use Rattle.std.proofs.Common.{rules, ◌≡◌, ◌≢◌, ◌<◌, ◌+◌, ◌⊎◌, inl, inr, ℕ, ℤ, List, length, codes, [], ◌∷◌, ◌++◌, refl, take, drop, arith, ap, subst, sym, ◌∙◌, Option, Some, None, true, false, tests}
-use Rattle.book_lines.specs.Lines.{texts, HaveNoColon}
+use Rattle.std.proofs.Common.{rules, ◌∷◌, subst, sym, ◌∙◌}
+use Rattle.book_lines.specs.Lines.{texts}
 use Rattle.book_lines.proofs.turn.emit_ending.Goals as goal
 use mir.Syntax.{w64}
 use Rattle.std.proofs.Common.{FitsSigned}

@@ -1,5 +1,4 @@
-use Rattle.std.proofs.Common.{rules, ◌≡◌, ◌≢◌, ◌<◌, ◌+◌, ◌⊎◌, inl, inr, ℕ, ℤ, List, length, codes, [], ◌∷◌, ◌++◌, refl, take, drop, arith, ap, subst, sym, ◌∙◌, Option, Some, None, true, false, tests}
-use Rattle.book_lines.specs.Lines.{texts, HaveNoColon}
+use Rattle.book_lines.specs.Lines.{texts}
 use Rattle.book_lines.proofs.turn.is_emit.Goals as goal
 use Rattle.book_lines.proofs.Cutting.{emit_form, emit_shown}
 

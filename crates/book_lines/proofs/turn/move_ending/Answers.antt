@@ -1,5 +1,5 @@
-use Rattle.std.proofs.Common.{rules, ◌≡◌, ◌≢◌, ◌<◌, ◌+◌, ◌⊎◌, inl, inr, ℕ, ℤ, List, length, codes, [], ◌∷◌, ◌++◌, refl, take, drop, arith, ap, subst, sym, ◌∙◌, Option, Some, None, true, false, tests}
-use Rattle.book_lines.specs.Lines.{texts, HaveNoColon}
+use Rattle.std.proofs.Common.{◌∷◌, subst, sym, ◌∙◌}
+use Rattle.book_lines.specs.Lines.{texts}
 use Rattle.book_lines.proofs.turn.move_ending.Goals as goal
 use Rattle.book_lines.proofs.Pieces.{none_texts, not_none}
 use mir.Syntax.{w64}

@@ -1,6 +1,6 @@
-use Rattle.std.proofs.Common.{rules, ◌≡◌, ◌≢◌, ◌<◌, ◌+◌, ◌⊎◌, inl, inr, ℕ, ℤ, List, length, codes, [], ◌∷◌, ◌++◌, refl, take, drop, arith, ap, subst, sym, ◌∙◌, Option, Some, None, true, false, tests}
+use Rattle.std.proofs.Common.{◌≡◌, ℕ, List, codes, ◌∷◌, ◌++◌, ap, subst, sym, ◌∙◌}
 use Rattle.std.proofs.lemmas.Bool.{false≢true}
-use Rattle.book_lines.specs.Lines.{texts, HaveNoColon}
+use Rattle.book_lines.specs.Lines.{texts}
 use Rattle.book_lines.proofs.turn.turn_items.Goals as goal
 use Rattle.book_lines.specs.Values.{Level}
 use Rattle.book_lines.specs.Forms.{IsEnding}

@@ -1,6 +1,5 @@
-use Rattle.std.proofs.Common.{rules, ◌≡◌, ◌≢◌, ◌<◌, ◌≤◌, ◌+◌, ◌⊎◌, inl, inr, ℕ, ℤ, List, length, [], ◌∷◌, ◌++◌, refl, take, arith, ap, subst, sym, ◌∙◌, Option, Some, None, true, false, tests, map, flat_map}
 use Rattle.book_text.proofs.laws.texts_have_one_refusal.Goals as goal
 use Rattle.book_text.proofs.OneRefusal.{one_refusal}
 
 pub returns : goal.returns
-returns c = one_refusal (record { meaning = c.words_mean_one_plane.ensures; refusal = c.words_have_one_refusal.ensures; none = c.fine_words_have_no_refusal.ensures })
+returns c = one_refusal (record { one = c.lines_state_one_thing.ensures; one_fault = c.lines_have_one_fault.ensures; no_fault = c.stating_lines_have_no_fault.ensures })

@@ -2,7 +2,7 @@ use Rattle.std.proofs.Common.{rules, ◌∙◌, get_or, w64}
 use Rattle.std.specs.Prelude.{pos, FitsSigned}
 use Rattle.life_cells.specs.Cells.{cell}
 use Rattle.life_cells.proofs.Casts.{sum_is}
-use Rattle.life_cells.proofs.MovedCells.{push_mapped}
+use Rattle.life_cells.specs.MovedLaws.{push_mapped}
 use Rattle.life_cells.proofs.moved.push_moved.Goals as goal
 
 pub loop-cell-preserved : goal.loop-cell-preserved

@@ -1,5 +1,5 @@
 use Rattle.std.proofs.Common.{length}
-use Rattle.life_rle.specs.Readers.{IsOpened}
+use Rattle.life_rle.specs.Opened.{IsOpened}
 use Rattle.life_rle.proofs.start.skip_passed_over.Given as goal
 
 abbrev pub invariant-loop-line : goal.invariant-loop-line

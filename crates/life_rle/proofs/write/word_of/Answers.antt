@@ -9,7 +9,7 @@ use Rattle.life_cells.specs.Cells.{alive}
 use Rattle.life_cells.specs.Boxes.{IsInRange}
 use Rattle.rle_items.specs.declared.item.Item.{Item}
 use Rattle.life_rle.specs.Drawn.{IsBehind}
-use Rattle.life_rle.proofs.Spelled.{word_whole}
+use Rattle.life_rle.specs.SpellingLaws.{word_whole}
 use Rattle.life_rle.proofs.Whole.{alive_listed, behind_origin, word_written}
 use Rattle.life_rle.proofs.write.word_of.Goals as goal
 

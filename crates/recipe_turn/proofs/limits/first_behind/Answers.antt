@@ -4,7 +4,7 @@ use Rattle.life_cells.specs.declared.cell.Cell.{Cell}
 use Rattle.life_cells.specs.Cells.{in_order, alive}
 use Rattle.life_cells.specs.Laws.{alive-in_order, rising-in_order}
 use Rattle.recipe_turn.specs.Turn.{IsAheadOrOwn}
-use Rattle.recipe_turn.proofs.Places.{live_at, at_place, each_more, each_live}
+use Rattle.life_cells.specs.PlaceLaws.{live_at, at_place, each_more, each_live}
 use Rattle.recipe_turn.proofs.Comparisons.{true≢false}
 use Rattle.recipe_turn.proofs.Ranges.{live_within}
 use Rattle.life_cells.specs.FirstLaws.{first_place}

@@ -1,9 +1,9 @@
--- The lines of a text.
+-- The laws of the lines of a text.
 use Rattle.std.specs.Prelude.{◌≡◌, ℕ, ◌-◌, Bool, true, false, not, ◌||◌, ◌==◌, List, [], ◌∷◌, length, take, slice_index, if◌then◌else◌}
 use Rattle.std.specs.List.{list_all, slice_split, onto_first}
 use Rattle.std.specs.Str.Lines.{strip_carriage_return}
 use Rattle.std.proofs.Common.{refl, ap, zero, suc}
-use Rattle.life_rle.proofs.Bytes.{first, second, not_false}
+use Rattle.life_rle.specs.ByteLaws.{first, second, not_false}
 
 -- ---- one line and the rest
 

@@ -1,11 +1,13 @@
--- The cells of a set by their places in order.
-use Rattle.std.proofs.Common.{◌≡◌, ℕ, ◌+◌, ◌<◌, ◌≤◌, true, ℤ, List, length, get_or, Option, Some, sym, ap, subst, ◌∙◌, arith, inl, inr}
-use Rattle.std.specs.List.{slice_get}
+-- The laws of the cells of a list and of a set, one by one: what stands at a place lives, and what holds at each place holds of what lives.
+use Rattle.std.proofs.Common.{◌≡◌, ℕ, ◌+◌, ◌<◌, ◌≤◌, Bool, true, false, ◌||◌, refl, ℤ, List, [], ◌∷◌, length, get_or, Option, Some, sym, ap, subst, ◌∙◌, arith, inl, inr}
+use Rattle.std.specs.List.{slice_get, AllByRecursion}
 use Rattle.std.proofs.lemmas.Option.{slice_get_within, slice_get-get_or}
 use Rattle.std.proofs.lemmas.Bool.{cases_lt}
 use Rattle.life_plane.specs.Plane.{Plane}
 use Rattle.life_cells.specs.declared.cell.Cell.{Cell}
 use Rattle.life_cells.specs.Cells.{cell, Cells, alive, in_order}
+use Rattle.life_cells.specs.Listed.{listed, same_cell}
+use Rattle.life_cells.specs.Order.{same_cell-itself}
 use Rattle.life_cells.specs.Laws.{alive-in_order, listed_at_place, place_of_listed}
 
 -- what a list in a set's order has at a place
@@ -38,3 +40,23 @@ each_live s P n short each x y live =
     let p = place_of_listed (in_order s) x y (sym (ap (λ (q : Plane). q x y) (alive-in_order s)) ∙ live) in
     let within = slice_get_within (in_order s) p.0 (cell x y) p.1 in
     each p.0 (cell x y) (omega arith) p.1
+
+-- ---- the cells of a list
+
+true_or : (a b : Bool) → a ≡ true → (a || b) ≡ true
+true_or a b h = ap (λ v. v || b) h
+
+or_true : (a b : Bool) → b ≡ true → (a || b) ≡ true
+or_true true b h = refl
+or_true false b h = h
+
+pub listed_here : (c : Cell) (cs : List Cell) → listed (c ∷ cs) c.x c.y ≡ true
+listed_here c cs = true_or _ _ (same_cell-itself c)
+
+listed_there : (c : Cell) (cs : List Cell) (x y : ℤ) → listed cs x y ≡ true → listed (c ∷ cs) x y ≡ true
+listed_there c cs x y h = or_true (same_cell (cell x y) c) _ h
+
+-- what holds of what is listed holds of each cell
+pub each_listed : (P : Cell → Type 0) (cs : List Cell) → ((c : Cell) → listed cs c.x c.y ≡ true → P c) → AllByRecursion P cs
+each_listed P [] f = tt
+each_listed P (c ∷ cs) f = (f c (listed_here c cs), each_listed P cs (λ d h. f d (listed_there c cs d.x d.y h)))

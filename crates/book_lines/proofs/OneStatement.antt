@@ -1,10 +1,9 @@
 -- A line states one thing.
-use Rattle.std.proofs.Common.{◌≡◌, ◌≢◌, ℕ, ℤ, pos, List, [], ◌∷◌, ◌++◌, codes, Option, Some, None, refl, sym, ap, ◌∙◌, subst}
+use Rattle.std.proofs.Common.{◌≡◌, ℕ, ℤ, pos, List, [], Option, Some, None, refl, sym, ap, ◌∙◌, subst}
 use Rattle.life_plane.specs.Plane.{Plane, shift}
-use Rattle.life_cells.specs.Cells.{Cells, alive, cell}
+use Rattle.life_cells.specs.Cells.{cell}
 use Rattle.life_cells.specs.Laws.{same_cells}
 use Rattle.life_cells.specs.declared.cell.Cell.{Cell}
-use Rattle.rle_items.specs.declared.error.BodyError.{BodyError}
 use Rattle.rle_items.specs.declared.error.BodyError.TheVariants as refusal
 use Rattle.book_lines.specs.declared.statement.Body.{Body}
 use Rattle.book_lines.specs.declared.statement.Body.TheVariants.{Drawn, TooMany}
@@ -17,14 +16,14 @@ use Rattle.book_lines.specs.declared.statement.TurnLine.{TurnLine}
 use Rattle.book_lines.specs.declared.statement.SalvoLine.{SalvoLine}
 use Rattle.book_lines.specs.declared.statement.Statement.{Statement}
 use Rattle.book_lines.specs.declared.statement.Statement.TheVariants.{Approach, Wall, Reach, Corner, Room, Span, Lanes, Delays, Hand, Elbow, Start, Turn, Salvo}
-use Rattle.book_lines.specs.Values.{Level, IsNumber, IsBodyAt, AreNumbersAt}
-use Rattle.book_lines.specs.Values.Level.{Form, Numbers, Bodies, Whole}
-use Rattle.book_lines.specs.Forms.{IsOneNumber, IsPair, IsSpread, IsBody, IsPlacedBody, IsElbowLine, IsOneName, IsStep, IsEnding, IsTurnLine, IsProduct, IsHand, IsSalvoLine}
+use Rattle.book_lines.specs.Values.{IsNumber, IsBodyAt, AreNumbersAt}
+use Rattle.book_lines.specs.Values.Level.{Form, Numbers, Whole}
+use Rattle.book_lines.specs.Forms.{IsOneNumber, IsPair, IsSpread, IsBody, IsPlacedBody, IsElbowLine, IsStep, IsEnding, IsTurnLine, IsProduct, IsHand, IsSalvoLine}
 use Rattle.book_lines.specs.Statements.{spelling, keyword, ItemsState, States}
 use Rattle.book_lines.proofs.Keys.{one_keyword}
 use Rattle.book_lines.proofs.Uniqueness.{one_number, one_list}
 use Rattle.book_lines.proofs.Drawing.{OneMeaning, OneRefusal, NoRefusal}
-use Rattle.book_lines.proofs.Levels.{NumbersPass, BodiesPass, turn_pass, salvo_pass, numbers_pass, zip_pass, numbers_form, bodies_form}
+use Rattle.book_lines.proofs.Levels.{NumbersPass, BodiesPass, turn_pass, salvo_pass, zip_pass, numbers_form, bodies_form}
 use Rattle.book_lines.proofs.Pieces.{no_colons}
 use Rattle.book_lines.proofs.Cutting.{turn_parts, ending_free, salvo_parts, product_free, close_down, move_down, emit_down}
 

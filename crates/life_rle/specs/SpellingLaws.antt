@@ -1,6 +1,5 @@
 -- What is written for items spells them.
-use Rattle.rle_items.specs.Words.{item_text, tag_byte}
-use Rattle.std.specs.Prelude.{◌≡◌, ℕ, ◌+◌, ◌<◌, ◌^◌, Bool, true, false, ◌==◌, List, [], ◌∷◌, ◌++◌, length, nat_le, if◌then◌else◌, map, flat_map}
+use Rattle.std.specs.Prelude.{◌≡◌, ℕ, ◌+◌, ◌<◌, ◌^◌, pos, Bool, true, false, ◌==◌, List, [], ◌∷◌, ◌++◌, length, nat_le, if◌then◌else◌, map, flat_map}
 use Rattle.std.specs.declared.option.Option.TheVariants.{Some}
 use Rattle.std.specs.List.{list_all}
 use Rattle.std.specs.Fmt.{decimal}
@@ -11,11 +10,15 @@ use Rattle.std.proofs.lemmas.Bool.Decides.{eqb_tells}
 use Rattle.rle_items.specs.declared.item.Item.{Item}
 use Rattle.rle_items.specs.declared.item.Tag.{Tag}
 use Rattle.rle_items.specs.declared.item.Tag.TheVariants.{Dead, Alive, RowEnd}
+use Rattle.life_plane.specs.Plane.{Plane}
+use Rattle.life_cells.specs.Cells.{cell}
+use Rattle.rle_items.specs.Items.{AreCells}
+use Rattle.rle_items.specs.Words.{item_text, tag_byte, WordMeans}
 use Rattle.rle_items.specs.Numbers.{IsNatural}
 use Rattle.rle_items.specs.Spelling.{SpellsItem, Spells, IsNone, IsWhite, IsCount, tag_of}
 use Rattle.life_rle.specs.Written.{folded, pieces}
 use Rattle.life_rle.specs.Drawn.{AreSmall}
-use Rattle.life_rle.proofs.Bytes.{both, all_append, decimal_natural, decimal_passes, small_fits, is_item_byte, item_digit}
+use Rattle.life_rle.specs.ByteLaws.{both, all_append, decimal_natural, decimal_passes, small_fits, is_item_byte, item_digit}
 
 -- ---- one item
 
@@ -115,3 +118,8 @@ folded_passes column (i ∷ is) h =
       | true ↦ all_append is_item_byte (item_text i) _ (item_passes i h.0.1) (folded_passes (column + length (item_text i)) is h.1)
       | false ↦ all_append is_item_byte (item_text i) _ (item_passes i h.0.1) (folded_passes (length (item_text i)) is h.1)
     ]
+
+-- ---- what a word means
+
+pub word_means : (items : List Item) (s : Plane) → AreSmall items → AreCells (cell (pos 0) (pos 0)) items s → WordMeans (flat_map (λ piece. piece) (pieces items)) s
+word_means items s small c = record { items = items; written = _; whole = word_whole items; items_are = word_spelled items small; cells = c }
