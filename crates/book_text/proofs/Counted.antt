@@ -1,11 +1,8 @@
 -- Counts within their limits.
-use Rattle.std.proofs.Common.{◌≡◌, ℕ, ◌+◌, ◌<◌, ◌≤◌, ◌^◌, ℤ, pos, ◌≤ℤ◌, List, [], ◌∷◌, ◌++◌, length, map, drop, sum_by, Option, Some, None, inl, inr, refl, sym, ap, ◌∙◌, subst, arith}
+use Rattle.std.proofs.Common.{◌≡◌, ℕ, ◌+◌, ◌≤◌, ◌^◌, pos, ◌≤ℤ◌, List, [], ◌∷◌, ◌++◌, length, drop, Option, Some, None, inl, inr, refl, ap, arith}
 use Rattle.std.proofs.lemmas.Int.{ints}
-use Rattle.std.proofs.lemmas.List.Sums.{sum_by_push}
-use Rattle.life_cells.specs.Cells.{Cells, empty, in_order}
+use Rattle.life_cells.specs.Cells.{empty, in_order}
 use Rattle.life_cells.specs.Laws.{in_order-empty}
-use Rattle.book_parts.specs.declared.kind.RawKind.{RawKind}
-use Rattle.book_parts.specs.declared.salvo.RawSalvo.{RawSalvo}
 use Rattle.book_lines.specs.declared.statement.Body.{Body}
 use Rattle.book_lines.specs.declared.statement.Body.TheVariants.{Drawn, TooMany}
 use Rattle.book_lines.specs.declared.statement.Placed.{Placed}
@@ -14,7 +11,7 @@ use Rattle.book_lines.specs.Values.{body_count}
 use Rattle.book_lines.specs.Counts.{delay_count, lane_count, cell_count, product_count}
 use Rattle.book_text.specs.declared.limit.Limit.TheVariants.{Count}
 use Rattle.book_text.specs.Stated.{Stated, cells_of, product_of, joined}
-use Rattle.book_text.specs.Limited.{Limited, held, IsWithin, numbers, counts, stated_cells, hand_count, IsFirstOutside, IsOver}
+use Rattle.book_text.specs.Limited.{Limited, held, numbers, counts, stated_cells, IsFirstOutside, IsOver}
 
 pub behind_none : (ns ms : List Limited) → IsFirstOutside (ns ++ ms) None → IsFirstOutside ms None
 behind_none [] ms h = h

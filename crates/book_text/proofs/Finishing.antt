@@ -1,5 +1,5 @@
 -- From the parts of a text to the text.
-use Rattle.std.proofs.Common.{◌≡◌, ◌≢◌, ℕ, ℤ, pos, ◌+ℤ◌, ◌<ℤ◌, ◌≤ℤ◌, List, [], ◌∷◌, Result, Ok, Err, IfOk, IfErr, refl, sym, ap, ◌∙◌, subst}
+use Rattle.std.proofs.Common.{◌≡◌, ◌≢◌, ℕ, pos, ◌+ℤ◌, ◌≤ℤ◌, List, [], Result, Ok, Err, IfOk, IfErr, sym, subst}
 use Rattle.std.specs.Str.Lines.{lines}
 use Rattle.book_parts.specs.declared.settings.Settings.{Settings}
 use Rattle.book_parts.specs.Proper.{IsProperBook}
@@ -11,7 +11,7 @@ use Rattle.book_text.specs.declared.error.BookError.{BookError}
 use Rattle.book_text.specs.declared.error.BookError.TheVariants.{BadLine, Doubled, UnknownKind, LimitOver, Missing, WallReach, Memory}
 use Rattle.book_text.specs.Stated.{Stated, nothing_stated}
 use Rattle.book_text.specs.Reading.{AreFine, IsBegun}
-use Rattle.book_text.specs.Book.{Said, whole, AreRead, Says, StopsInLine, StopsWith, IsBook}
+use Rattle.book_text.specs.Book.{Said, whole, AreRead, Says, StopsWith, IsBook}
 use Rattle.book_text.specs.Drafted.{IsBodyRefusal, IsVersionRefusal, IsUnfinished}
 
 pub begun_refused : (text : List ℕ) (e : BookError) → IsVersionRefusal (lines text) e → StopsWith text e

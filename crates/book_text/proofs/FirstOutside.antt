@@ -1,8 +1,7 @@
 -- The first number outside its limits, among the numbers of lists.
-use Rattle.std.proofs.Common.{◌≡◌, ℕ, ◌+◌, ◌<◌, ◌≤◌, ℤ, List, [], ◌∷◌, ◌++◌, length, take, get_or, map, flat_map, inl, inr, Option, Some, None, zero, suc, refl, sym, ap, ◌∙◌, subst, arith, add-one, true, false, is_some}
-use Rattle.life_cells.specs.declared.cell.Cell.{Cell}
+use Rattle.std.proofs.Common.{◌≡◌, ℕ, ◌+◌, ◌<◌, ◌≤◌, ℤ, List, [], ◌∷◌, ◌++◌, length, take, get_or, map, flat_map, inl, inr, Option, Some, None, zero, suc, refl, sym, ap, subst, arith, add-one, true, false, is_some}
 use Rattle.book_text.specs.declared.limit.Limit.{Limit}
-use Rattle.book_text.specs.Limited.{Limited, held, cell_numbers, IsWithin, IsFirstOutside, or_found}
+use Rattle.book_text.specs.Limited.{Limited, held, IsFirstOutside, or_found}
 
 pub first_append : (ns ms : List Limited) (a b : Option ℤ) → IsFirstOutside ns a → IsFirstOutside ms b → IsFirstOutside (ns ++ ms) (or_found a b)
 first_append [] ms a b e k = subst (λ (o : Option ℤ). IsFirstOutside ms (or_found o b)) (sym e) k

@@ -1,15 +1,11 @@
 -- A text that says a book has no refusal.
-use Rattle.std.proofs.Common.{◌≡◌, ◌≢◌, ℕ, ◌+◌, ℤ, pos, ◌+ℤ◌, ◌≤ℤ◌, ◌<ℤ◌, List, [], ◌∷◌, ◌++◌, length, Option, Some, None, inl, inr, refl, sym, ap, ◌∙◌, subst, arith}
+use Rattle.std.proofs.Common.{◌≡◌, ◌≢◌, ℕ, ℤ, pos, ◌+ℤ◌, ◌≤ℤ◌, List, [], ◌∷◌, ◌++◌, Some, None, inl, inr, refl, sym, ap, ◌∙◌, subst, arith}
 use Rattle.std.specs.List.{AllByRecursion}
 use Rattle.std.specs.Str.Lines.{lines}
 use Rattle.std.proofs.lemmas.Int.{ints}
 use Rattle.book_lines.specs.Lines.{IsPassedOver}
-use Rattle.book_lines.specs.declared.fault.LineFault.{LineFault}
 use Rattle.book_lines.specs.declared.fault.LineFault.TheVariants as fault
 use Rattle.book_lines.specs.declared.statement.Statement.{Statement}
-use Rattle.book_lines.specs.Values.Level.{Form, Numbers, Bodies, Whole}
-use Rattle.book_lines.specs.Statements.{keyword, States}
-use Rattle.book_lines.specs.Faults.{IsLineFault}
 use Rattle.book_text.specs.declared.error.BookError.{BookError}
 use Rattle.book_text.specs.declared.error.BookError.TheVariants.{BadLine, Doubled, UnknownKind, LimitOver, Missing, WallReach, Memory}
 use Rattle.book_text.specs.declared.error.BookWord.{BookWord}
@@ -18,7 +14,7 @@ use Rattle.book_text.specs.Stated.{Stated, nothing_stated, joined}
 use Rattle.book_text.specs.Limited.{Limited, numbers, counts, IsFirstOutside}
 use Rattle.book_text.specs.Joining.{IsNew, KnowsKinds, IsFine}
 use Rattle.book_text.specs.Reading.{AreFine, IsRefused, IsVersion, IsBegun, HasNoVersion, IsRefusedAmong, IsMissing, IsFirstMissing, book_words}
-use Rattle.book_text.specs.Book.{Said, whole, AreRead, Says, StopsInLine, StopsWith}
+use Rattle.book_text.specs.Book.{Said, whole, Says, StopsInLine, StopsWith}
 use Rattle.book_text.proofs.LineLaws.{LineLaws}
 use Rattle.book_text.proofs.OneBook.{heads_once, begun_once, fine_once, read_once, whole_once, version_other}
 

@@ -1,11 +1,11 @@
 -- The numbers of kinds by their names.
-use Rattle.std.proofs.Common.{◌≡◌, ℕ, ◌+◌, ◌<◌, ◌≤◌, zero, suc, Bool, true, false, List, [], ◌∷◌, length, map, slice_get, Option, Some, None, if◌then◌else◌, refl, sym, ap, ◌∙◌, arith, inl, inr}
+use Rattle.std.proofs.Common.{◌≡◌, ℕ, ◌+◌, zero, suc, true, false, List, [], ◌∷◌, map, slice_get, Some, None, refl, sym, ap, ◌∙◌, arith, inl, inr}
 use Rattle.std.proofs.lemmas.Slice.Eq.{bytes_eq-Decides}
 use Rattle.std.proofs.lemmas.Bool.{cases_Bool}
 use Rattle.std.specs.Str.{bytes_eq}
 use Rattle.book_parts.specs.Proper.{IsNoneOf}
 use Rattle.book_parts.specs.declared.kind.RawKind.{RawKind}
-use Rattle.book_text.specs.Names.{number_from, number_of}
+use Rattle.book_text.specs.Names.{number_from}
 use Rattle.book_text.proofs.Searches.{NoneBelow}
 
 abbrev pub name_of : RawKind → List ℕ

@@ -1,13 +1,12 @@
 -- A text says one book at most.
-use Rattle.std.proofs.Common.{◌≡◌, ◌≢◌, ℕ, ◌+◌, ◌<◌, Bool, true, false, not, cond, List, [], ◌∷◌, ◌++◌, length, filter, codes, Option, Some, None, inl, inr, ◌==◌, eqb, refl, sym, ap, ◌∙◌, subst, arith}
-use Rattle.std.specs.List.{AllByRecursion, slice_split, onto_first}
+use Rattle.std.proofs.Common.{◌≡◌, ℕ, ◌+◌, true, false, not, List, [], ◌∷◌, ◌++◌, length, filter, Some, inl, inr, ◌==◌, eqb, refl, sym, ap, ◌∙◌, subst, arith}
+use Rattle.std.specs.List.{AllByRecursion, onto_first}
 use Rattle.std.specs.Str.Lines.{lines}
 use Rattle.std.proofs.lemmas.Bool.{false≢true, ne_eqb}
 use Rattle.std.proofs.lemmas.Bool.Decides.{nat_tests}
 use Rattle.book_lines.specs.Lines.{is_blank_byte, is_comment, IsBlank, IsPassedOver, words}
 use Rattle.book_lines.specs.declared.statement.Statement.{Statement}
 use Rattle.book_text.specs.Stated.{Stated, nothing_stated, joined}
-use Rattle.book_text.specs.Joining.{IsFine}
 use Rattle.book_text.specs.Reading.{AreFine, IsVersion, IsBegun}
 use Rattle.book_text.specs.Book.{Said, whole, AreRead, Says}
 use Rattle.book_text.proofs.Splits.{some_part}

@@ -1,21 +1,18 @@
 -- A text has one refusal.
-use Rattle.std.proofs.Common.{◌≡◌, ◌≢◌, ℕ, ◌+◌, ◌⊎◌, ℤ, List, [], ◌∷◌, ◌++◌, length, Option, Some, None, inl, inr, refl, sym, ap, ◌∙◌, subst}
+use Rattle.std.proofs.Common.{◌≡◌, ◌≢◌, ℕ, ◌+◌, ◌⊎◌, ℤ, List, [], ◌∷◌, ◌++◌, length, Some, inl, inr, refl, sym, ap, ◌∙◌, subst}
 use Rattle.std.specs.List.{AllByRecursion}
 use Rattle.std.specs.Str.Lines.{lines}
 use Rattle.book_lines.specs.Lines.{IsPassedOver}
-use Rattle.book_lines.specs.declared.fault.LineFault.{LineFault}
 use Rattle.book_lines.specs.declared.fault.LineFault.TheVariants as fault
 use Rattle.book_lines.specs.declared.statement.Statement.{Statement}
-use Rattle.book_lines.specs.Values.Level.{Form, Numbers, Bodies}
-use Rattle.book_lines.specs.Statements.{States, StatesAt}
-use Rattle.book_lines.specs.Faults.{IsLineFault}
+use Rattle.book_lines.specs.Statements.{States}
 use Rattle.book_text.specs.declared.error.BookError.{BookError}
 use Rattle.book_text.specs.declared.error.BookError.TheVariants.{BadLine, Doubled, UnknownKind, LimitOver, Missing, WallReach, Memory}
 use Rattle.book_text.specs.declared.error.BookWord.{BookWord}
 use Rattle.book_text.specs.Stated.{Stated, nothing_stated}
 use Rattle.book_text.specs.Limited.{Limited, numbers, counts, IsFirstOutside}
 use Rattle.book_text.specs.Joining.{IsNew, KnowsKinds}
-use Rattle.book_text.specs.Reading.{AreFine, IsRefused, HasNoVersion, IsRefusedAmong, IsMissing, IsFirstMissing, book_words}
+use Rattle.book_text.specs.Reading.{AreFine, IsRefused, HasNoVersion, IsRefusedAmong, IsFirstMissing, book_words}
 use Rattle.book_text.specs.Book.{Said, whole, AreRead, StopsInLine, StopsWith}
 use Rattle.book_text.specs.Drafted.{IsUnfinished}
 use Rattle.book_text.proofs.LineLaws.{LineLaws}

@@ -1,5 +1,5 @@
 -- Multiples of 4 within limits.
-use Rattle.std.proofs.Common.{◌≡◌, ℕ, ◌/◌, ◌%◌, ◌*◌, ℤ, pos, negsuc, ◌≤ℤ◌, ◌*ℤ◌, true, arith, nat_eq, IsTrue, rules}
+use Rattle.std.proofs.Common.{◌≡◌, ℕ, ◌/◌, ◌%◌, ℤ, pos, negsuc, ◌*ℤ◌, true, arith, nat_eq}
 use lib.Signed.{rem_z}
 use mir.Syntax.{w64}
 use mir.Val.{of_z}

@@ -1,20 +1,15 @@
 -- What lines are refused for.
-use Rattle.std.proofs.Common.{◌≡◌, ◌≢◌, ℕ, ◌+◌, ◌≤◌, ℤ, List, [], ◌∷◌, ◌++◌, length, inl, inr, Some, None, refl, sym, ap, ◌∙◌, subst, arith, append_assoc, codes, true, Result, Ok, Err, IfErr, IsErrAnd, false, ◌==◌, ◌<◌}
+use Rattle.std.proofs.Common.{◌≡◌, ℕ, ◌+◌, List, [], ◌∷◌, ◌++◌, length, inl, inr, refl, sym, ap, ◌∙◌, subst, arith, append_assoc, codes, true, Result, Ok, Err, IfErr, IsErrAnd, false, ◌==◌, ◌<◌}
 use Rattle.std.specs.List.{AllByRecursion}
 use Rattle.std.proofs.lemmas.List.{length-append}
-use Rattle.book_lines.specs.declared.fault.LineFault.{LineFault}
-use Rattle.book_lines.specs.declared.fault.LineFault.TheVariants.{Version}
-use Rattle.book_lines.specs.declared.fault.LineError.{LineError}
-use Rattle.book_lines.specs.declared.fault.LineError.TheVariants.{Fault}
 use Rattle.book_lines.specs.declared.statement.Statement.{Statement}
 use Rattle.book_lines.specs.Lines.{IsPassedOver}
 use Rattle.book_lines.specs.Statements.{States}
-use Rattle.book_lines.specs.Faults.{IsLineFault}
 use Rattle.book_text.specs.declared.error.BookError.{BookError}
 use Rattle.book_text.specs.declared.error.BookError.TheVariants.{BadLine, Doubled, UnknownKind, LimitOver, Missing, WallReach, Memory}
 use Rattle.book_text.specs.Stated.{Stated, nothing_stated, joined}
 use Rattle.book_text.specs.Joining.{IsNew, IsFine}
-use Rattle.book_text.specs.Reading.{AreFine, IsRefused, IsRefusedAmong}
+use Rattle.book_text.specs.Reading.{AreFine, IsRefused}
 use Rattle.std.specs.Str.Lines.{lines}
 use Rattle.std.proofs.lemmas.Bool.Decides.{nat_tests}
 use Rattle.book_text.specs.Drafted.{IsTaken, IsLineRefusal, IsBodyRefusal, IsOtherLine, IsVersionRefusal}

@@ -1,6 +1,6 @@
 -- What fine lines have stated is proper.
 use Rattle.std.proofs.Common.{◌≡◌, ◌≢◌, ℕ, ◌+◌, ◌<◌, ◌≤◌, ◌^◌, ℤ, pos, negsuc, nat_abs, ◌≤ℤ◌, ◌+ℤ◌, List, [], ◌∷◌, ◌++◌, length, sum_by, Option, Some, None, IfSome, IsSome, unwrap_or, inl, inr, refl, sym, ap, ◌∙◌, subst, arith}
-use Rattle.std.proofs.Common.{Bool, true, false, zero, suc, slice_get, flat_map, map, ◌-ℤ◌, append_assoc, if◌then◌else◌}
+use Rattle.std.proofs.Common.{Bool, true, false, zero, suc, slice_get, flat_map, map, ◌-ℤ◌, append_assoc}
 use Rattle.std.specs.List.{AllZip}
 use Rattle.std.specs.Str.{bytes_eq}
 use Rattle.std.proofs.lemmas.Bool.{false≢true}
@@ -31,7 +31,7 @@ use Rattle.book_lines.specs.Counts.{cell_count}
 use Rattle.book_text.specs.declared.limit.Limit.{Limit}
 use Rattle.book_text.specs.Names.{number_from, number_of, known_number}
 use Rattle.book_text.specs.Stated.{cells_of, kind_of, end_of, turn_of, product_of, salvo_of}
-use Rattle.book_text.specs.Limited.{cell_numbers, body_numbers, placed_numbers, leaves_numbers, product_numbers, place_numbers, stated_cells, hand_count}
+use Rattle.book_text.specs.Limited.{cell_numbers, body_numbers, leaves_numbers, product_numbers, place_numbers, stated_cells, hand_count}
 use Rattle.book_text.specs.Joining.{IsNew, KnowsKinds, kind_names, entry_names, kinds_left}
 use Rattle.book_text.specs.Book.{Said, whole, Says, IsBook}
 use Rattle.book_text.specs.ProperSaid.{IsProperSaid}

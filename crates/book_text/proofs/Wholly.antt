@@ -1,5 +1,5 @@
 -- All of a book is stated.
-use Rattle.std.proofs.Common.{◌≡◌, ◌≢◌, ℕ, ℤ, pos, List, [], ◌∷◌, length, ◌==◌, true, false, Option, Some, None, IfSome, is_some, refl, ◌+ℤ◌, ◌<ℤ◌, ◌≤ℤ◌, negsuc, sym, ap, ◌∙◌, subst, arith}
+use Rattle.std.proofs.Common.{◌≡◌, ◌≢◌, ℕ, ℤ, pos, List, [], length, ◌==◌, true, false, Option, Some, None, is_some, refl, ◌+ℤ◌, ◌<ℤ◌, ◌≤ℤ◌, negsuc, ap, ◌∙◌, arith}
 use lib.Signed.{lt_z}
 use mir.Syntax.{w64}
 use mir.Val.{SFits, of_z, to_z}

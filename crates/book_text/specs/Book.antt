@@ -1,5 +1,5 @@
 -- What a book's text says, or why it says no book.
-use Rattle.std.specs.Prelude.{◌≡◌, ◌≢◌, ℕ, ◌⊎◌, ◌+ℤ◌, ◌<ℤ◌, pos, List, []}
+use Rattle.std.specs.Prelude.{◌≡◌, ◌≢◌, ℕ, ◌+ℤ◌, ◌<ℤ◌, pos, List, []}
 use Rattle.std.specs.Str.Lines.{lines}
 use Rattle.std.specs.declared.option.Option.TheVariants.{Some}
 use Rattle.life_cells.specs.Cells.{Cells}
@@ -8,11 +8,9 @@ use Rattle.book_parts.specs.declared.kind.RawKind.{RawKind}
 use Rattle.book_parts.specs.declared.turn.RawTurn.{RawTurn}
 use Rattle.book_parts.specs.declared.salvo.RawSalvo.{RawSalvo}
 use Rattle.book_parts.specs.declared.book.RawBook.{RawBook}
-use Rattle.book_lines.specs.declared.fault.LineFault.{LineFault}
 use Rattle.book_lines.specs.declared.fault.LineFault.TheVariants as fault
 use Rattle.book_text.specs.declared.error.BookError.{BookError}
-use Rattle.book_text.specs.declared.error.BookError.TheVariants.{BadLine, Doubled, UnknownKind, LimitOver, Missing, WallReach, Memory}
-use Rattle.book_text.specs.declared.error.BookWord.{BookWord}
+use Rattle.book_text.specs.declared.error.BookError.TheVariants.{BadLine, Missing, WallReach, Memory}
 use Rattle.book_text.specs.Stated.{Stated, nothing_stated}
 use Rattle.book_text.specs.Reading.{AreFine, IsBegun, HasNoVersion, IsRefusedAmong, book_words, IsFirstMissing}
 

@@ -1,15 +1,13 @@
 -- How lines are read behind what is stated, and where that stops.
-use Rattle.std.specs.Prelude.{◌≡◌, ◌≢◌, ℕ, ◌+◌, ◌⊎◌, List, [], ◌∷◌, ◌++◌, length, codes}
+use Rattle.std.specs.Prelude.{◌≡◌, ℕ, ◌+◌, ◌⊎◌, List, [], ◌∷◌, ◌++◌, length, codes}
 use Rattle.std.specs.List.{AllByRecursion}
 use Rattle.std.specs.declared.option.Option.TheVariants.{Some, None}
-use Rattle.book_lines.specs.declared.fault.LineFault.{LineFault}
-use Rattle.book_lines.specs.declared.fault.LineFault.TheVariants as fault
 use Rattle.book_lines.specs.declared.statement.Statement.{Statement}
 use Rattle.book_lines.specs.Lines.{words, IsPassedOver}
 use Rattle.book_lines.specs.Statements.{States}
 use Rattle.book_lines.specs.Faults.{IsLineFault}
 use Rattle.book_text.specs.declared.error.BookError.{BookError}
-use Rattle.book_text.specs.declared.error.BookError.TheVariants.{BadLine, Doubled, UnknownKind, LimitOver, Missing, WallReach, Memory}
+use Rattle.book_text.specs.declared.error.BookError.TheVariants.{BadLine, Doubled, UnknownKind, LimitOver}
 use Rattle.book_text.specs.declared.error.BookWord.{BookWord}
 use Rattle.book_text.specs.declared.error.BookWord.TheVariants as word
 use Rattle.book_text.specs.Stated.{Stated, nothing_stated, joined}

@@ -1,5 +1,5 @@
 -- What lines have stated together.
-use Rattle.std.specs.Prelude.{ℕ, ℤ, nat_abs, List, [], ◌∷◌, ◌++◌, map, Option}
+use Rattle.std.specs.Prelude.{ℕ, ℤ, nat_abs, List, [], ◌∷◌, ◌++◌, Option}
 use Rattle.std.specs.declared.option.Option.TheVariants.{Some, None}
 use Rattle.life_cells.specs.Cells.{Cells, empty}
 use Rattle.life_cells.specs.declared.cell.Cell.{Cell}

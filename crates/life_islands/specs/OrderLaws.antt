@@ -1,12 +1,11 @@
 -- The laws of the order of islands.
 use Rattle.std.specs.Prelude.{◌≡◌, ◌⊎◌, true, ℤ, ◌<ℤ◌}
-use Rattle.std.proofs.Common.{refl, ap, ◌∙◌, arith, inl, inr}
+use Rattle.std.proofs.Common.{ap, ◌∙◌, arith, inl, inr}
 use Rattle.std.proofs.lemmas.Int.{ints}
-use Rattle.std.specs.declared.cmp.Ordering.{Ordering}
-use Rattle.std.specs.declared.cmp.Ordering.TheVariants.{Less, Equal, Greater}
+use Rattle.std.specs.declared.cmp.Ordering.TheVariants.{Less, Greater}
 use Rattle.std.specs.Ordering.{ordering_reverse}
 use Rattle.life_cells.specs.Cells.{alive, cell_cmp}
-use Rattle.life_cells.specs.Order.{cells_total, cells_antisymmetric}
+use Rattle.life_cells.specs.Order.{cells_total}
 use Rattle.life_cells.specs.declared.cell.Cell.{Cell}
 use Rattle.life_islands.specs.declared.island.Island.{Island}
 use Rattle.life_cells.specs.Firsts.{IsFirstLive}

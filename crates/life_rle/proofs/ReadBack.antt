@@ -1,16 +1,15 @@
 -- What is read from a text that is written is what was written.
 use Rattle.std.proofs.Common.{◌≡◌, ℕ, ◌+◌, ◌<◌, ◌≤◌, ◌^◌, true, not, ◌==◌, List, [], ◌∷◌, ◌++◌, length, refl, sym, ap, ◌∙◌, subst, arith, Option, pos, neg_ℤ, ℤ, ◌≤ℤ◌, eqb}
-use Rattle.std.specs.List.{list_all, flat_map}
+use Rattle.std.specs.List.{list_all}
 use Rattle.std.proofs.lemmas.Int.{ints}
 use Rattle.std.proofs.lemmas.List.{append_assoc}
 use Rattle.std.proofs.lemmas.Bool.{eq-eqb}
 use Rattle.life_plane.specs.Plane.{Plane}
-use Rattle.life_cells.specs.Cells.{cell, Cells, alive, in_order}
+use Rattle.life_cells.specs.Cells.{Cells, alive, in_order}
 use Rattle.life_cells.specs.Boxes.{IsInRange}
 use Rattle.life_cells.specs.declared.cell.Cell.{Cell}
 use Rattle.rle_items.specs.declared.item.Item.{Item}
 use Rattle.rle_items.specs.Items.{AreCells}
-use Rattle.rle_items.specs.Words.{WordMeans}
 use Rattle.life_rle.specs.Text.{Says, Means}
 use Rattle.life_rle.specs.TextFaults.{IsFineText}
 use Rattle.life_rle.specs.Written.{IsRleText, place_line, note_line, header_line, folded, pieces, HasNoLineBreak}
@@ -18,7 +17,7 @@ use Rattle.life_rle.specs.Drawn.{AreSmall, IsSmallFrame}
 use Rattle.life_rle.specs.ByteLaws.{first, second, all_append, is_item_byte}
 use Rattle.life_rle.proofs.Heading.{IsNear}
 use Rattle.life_rle.proofs.Seen.{HasNoHash, blanked_same}
-use Rattle.life_rle.specs.SpellingLaws.{folded_spelled, folded_passes, word_spelled, word_whole}
+use Rattle.life_rle.specs.SpellingLaws.{folded_spelled, folded_passes}
 use Rattle.life_rle.proofs.WrittenFine.{place_half, size_small, written_fine, written_small}
 use Rattle.life_rle.proofs.WrittenLines.{written_body}
 

@@ -1,5 +1,5 @@
 -- The items of a text, read from any place on.
-use Rattle.std.specs.Prelude.{◌≡◌, ℕ, ◌+◌, ◌≤◌, ◌<◌, ◌^◌, pos, ◌+ℤ◌, List, ◌∷◌, length}
+use Rattle.std.specs.Prelude.{◌≡◌, ℕ, ◌≤◌, ◌<◌, ◌^◌, pos, ◌+ℤ◌, List, ◌∷◌, length}
 use Rattle.life_cells.specs.Cells.{cell, Cells, alive, in_order}
 use Rattle.life_cells.specs.declared.cell.Cell.{Cell}
 use Rattle.rle_items.specs.declared.item.Item.{Item}

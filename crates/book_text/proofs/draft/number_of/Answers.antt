@@ -1,4 +1,4 @@
-use Rattle.std.proofs.Common.{rules, ◌≡◌, ◌≢◌, ◌<◌, ◌≤◌, ◌+◌, ◌⊎◌, inl, inr, ℕ, ℤ, List, length, [], ◌∷◌, ◌++◌, refl, take, arith, ap, subst, sym, ◌∙◌, Option, Some, None, true, false, tests, map, flat_map}
+use Rattle.std.proofs.Common.{◌≡◌, ◌+◌, arith, ap, sym, ◌∙◌, Some}
 use Rattle.book_text.proofs.draft.number_of.Goals as goal
 use Rattle.std.specs.Cmp.Lexicographic.{same_text, other_text}
 use Rattle.book_text.proofs.Searches.{below_first, below_next, none_of_below, found_at}

@@ -1,4 +1,3 @@
-use Rattle.std.proofs.Common.{rules, ◌≡◌, ◌≢◌, ◌<◌, ◌≤◌, ◌+◌, ◌⊎◌, inl, inr, ℕ, ℤ, List, length, [], ◌∷◌, ◌++◌, refl, take, arith, ap, subst, sym, ◌∙◌, Option, Some, None, true, false, tests, map, flat_map}
 use Rattle.book_text.proofs.draft.number_of.Given as goal
 use Rattle.book_parts.specs.declared.kind.RawKind.{RawKind}
 use Rattle.book_text.proofs.Searches.{NoneBelow}

@@ -1,4 +1,4 @@
-use Rattle.std.proofs.Common.{rules, ◌≡◌, ◌≢◌, ◌<◌, ◌≤◌, ◌+◌, ◌⊎◌, inl, inr, ℕ, ℤ, List, length, [], ◌∷◌, ◌++◌, refl, take, arith, ap, subst, sym, ◌∙◌, Option, Some, None, true, false, tests, map, flat_map}
+use Rattle.std.proofs.Common.{List, subst, sym, ◌∙◌, map}
 use Rattle.book_text.proofs.joining.is_new_entry.Goals as goal
 use Rattle.std.proofs.lemmas.Bool.{false≢true}
 use Rattle.book_parts.specs.Proper.{IsNoneOf}

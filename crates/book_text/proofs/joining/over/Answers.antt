@@ -1,4 +1,3 @@
-use Rattle.std.proofs.Common.{rules, ◌≡◌, ◌≢◌, ◌<◌, ◌≤◌, ◌+◌, ◌⊎◌, inl, inr, ℕ, ℤ, List, length, [], ◌∷◌, ◌++◌, refl, take, arith, ap, subst, sym, ◌∙◌, Option, Some, None, true, false, tests, map, flat_map}
 use Rattle.book_text.proofs.joining.over.Goals as goal
 use Rattle.book_text.specs.Limited.{numbers, counts}
 use Rattle.book_text.specs.Drafted.{stated_of}

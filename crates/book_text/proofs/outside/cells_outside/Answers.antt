@@ -1,12 +1,8 @@
-use Rattle.std.proofs.Common.{rules, ◌≡◌, ◌≢◌, ◌<◌, ◌≤◌, ◌+◌, ◌⊎◌, inl, inr, ℕ, ℤ, List, length, [], ◌∷◌, ◌++◌, refl, take, arith, ap, subst, sym, ◌∙◌, Option, Some, None, true, false, tests, map, flat_map}
+use Rattle.std.proofs.Common.{List, subst, ◌∙◌, None, flat_map}
 use Rattle.book_text.proofs.outside.cells_outside.Goals as goal
-use mir.Syntax.{w64}
-use Rattle.std.proofs.Common.{FitsSigned, get_or}
-use Rattle.std.proofs.lemmas.Int.{to_z-of_z}
-use Rattle.std.proofs.lemmas.Bool.{false≢true}
-use Rattle.book_text.specs.Limited.{held, cell_numbers, body_numbers, leaves_numbers, product_numbers, place_numbers, IsWithin, IsFirstOutside}
-use Rattle.book_text.specs.declared.limit.Limit.TheVariants as limit
-use Rattle.book_text.proofs.FirstOutside.{first_append, first_more, first_found_at, first_some_at, none_is, one_each, all_taken}
+use Rattle.std.proofs.Common.{get_or}
+use Rattle.book_text.specs.Limited.{cell_numbers, IsFirstOutside}
+use Rattle.book_text.proofs.FirstOutside.{first_more, first_some_at, none_is, all_taken}
 use Rattle.std.proofs.Common.{pos}
 use Rattle.life_cells.specs.Cells.{cell}
 use Rattle.life_cells.specs.declared.cell.Cell.{Cell}

@@ -1,4 +1,4 @@
-use Rattle.std.proofs.Common.{rules, ◌≡◌, ◌≢◌, ◌<◌, ◌≤◌, ◌+◌, ◌⊎◌, inl, inr, ℕ, ℤ, List, length, [], ◌∷◌, ◌++◌, refl, take, arith, ap, subst, sym, ◌∙◌, Option, Some, None, true, false, tests, map, flat_map}
+use Rattle.std.proofs.Common.{[], ◌∷◌, take, None, flat_map}
 use Rattle.book_text.proofs.outside.numbers_outside.Given as goal
 use Rattle.book_text.specs.Limited.{held, IsFirstOutside}
 

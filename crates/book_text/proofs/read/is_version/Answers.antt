@@ -1,4 +1,4 @@
-use Rattle.std.proofs.Common.{rules, ◌≡◌, ◌≢◌, ◌<◌, ◌≤◌, ◌+◌, ◌⊎◌, inl, inr, ℕ, ℤ, List, length, [], ◌∷◌, ◌++◌, refl, take, arith, ap, subst, sym, ◌∙◌, Option, Some, None, true, false, tests, map, flat_map}
+use Rattle.std.proofs.Common.{ap, sym, ◌∙◌}
 use Rattle.book_text.proofs.read.is_version.Goals as goal
 use Rattle.book_lines.specs.Lines.{texts}
 

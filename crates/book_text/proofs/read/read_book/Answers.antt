@@ -1,10 +1,9 @@
-use Rattle.std.proofs.Common.{rules, ◌≡◌, ◌≢◌, ◌<◌, ◌≤◌, ◌+◌, ◌⊎◌, inl, inr, ℕ, ℤ, List, length, [], ◌∷◌, ◌++◌, refl, take, arith, ap, subst, sym, ◌∙◌, Option, Some, None, true, false, tests, map, flat_map}
 use Rattle.book_text.proofs.read.read_book.Goals as goal
 use Rattle.std.specs.Str.Lines.{lines}
-use Rattle.book_text.specs.Stated.{Stated, nothing_stated}
+use Rattle.book_text.specs.Stated.{nothing_stated}
 use Rattle.book_text.specs.Book.{StopsWith}
 use Rattle.book_text.specs.Drafted.{stated_of}
-use Rattle.book_text.proofs.Sound.{AreSettings, no_settings, settings_fine}
+use Rattle.book_text.proofs.Sound.{no_settings, settings_fine}
 use Rattle.book_text.proofs.Refusing.{err_is}
 use Rattle.book_text.proofs.Finishing.{begun_refused, draft_refused, read_of, finished_err, finished_ok, finished_proper}
 

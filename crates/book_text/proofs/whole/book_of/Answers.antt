@@ -1,4 +1,4 @@
-use Rattle.std.proofs.Common.{rules, ◌≡◌, ◌≢◌, ◌<◌, ◌≤◌, ◌+◌, ◌⊎◌, inl, inr, ℕ, ℤ, List, length, [], ◌∷◌, ◌++◌, refl, take, arith, ap, subst, sym, ◌∙◌, Option, Some, None, true, false, tests, map, flat_map}
+use Rattle.std.proofs.Common.{rules, ℕ, ℤ, refl, ap, subst, sym, ◌∙◌, Option}
 use Rattle.book_text.proofs.whole.book_of.Goals as goal
 use mir.Syntax.{w64}
 use Rattle.std.proofs.Common.{FitsSigned}

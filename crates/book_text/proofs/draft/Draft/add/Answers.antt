@@ -1,4 +1,4 @@
-use Rattle.std.proofs.Common.{rules, ◌≡◌, ◌≢◌, ◌<◌, ◌≤◌, ◌+◌, ◌⊎◌, inl, inr, ℕ, ℤ, List, length, [], ◌∷◌, ◌++◌, refl, take, arith, ap, subst, sym, ◌∙◌, Option, Some, None, true, false, tests, map, flat_map}
+use Rattle.std.proofs.Common.{◌≡◌, List, length, [], ◌∷◌, arith, ap, ◌∙◌, None}
 use Rattle.book_text.proofs.draft.Draft.add.Goals as goal
 use Rattle.std.proofs.Common.{sum_by}
 use Rattle.std.proofs.lemmas.List.{length-append}
@@ -7,9 +7,9 @@ use Rattle.life_cells.specs.Cells.{Cells, in_order}
 use Rattle.book_parts.specs.declared.kind.RawKind.{RawKind}
 use Rattle.book_parts.specs.declared.salvo.RawSalvo.{RawSalvo}
 use Rattle.book_lines.specs.declared.statement.Statement.TheVariants.{Hand, Elbow, Turn, Salvo}
-use Rattle.book_text.specs.Limited.{IsOver, hand_count}
+use Rattle.book_text.specs.Limited.{hand_count}
 use Rattle.book_text.specs.Stated.{kind_of, turn_of, salvo_of}
-use Rattle.book_text.specs.Drafted.{stated_of, IsKept}
+use Rattle.book_text.specs.Drafted.{stated_of}
 use Rattle.book_text.proofs.Counted.{few, cells_counted, product_counted}
 
 pub overflow_add-self : goal.overflow_add-self
