@@ -6,6 +6,8 @@ mod check_tests;
 #[cfg(test)]
 mod compile_tests;
 #[cfg(test)]
+mod hub_tests;
+#[cfg(test)]
 mod replay_tests;
 #[cfg(test)]
 mod runs;

@@ -42,6 +42,16 @@ pub struct Outcome {
     pub err: Vec<u8>,
 }
 
+/// These lines, each with a line feed behind it.
+pub fn lines_of(alloc: Global, lines: &[&str]) -> Result<Vec<u8>, AllocError> {
+    let mut text = Vec::new(alloc);
+    for line in lines {
+        text.extend_from_slice(line.as_bytes())?;
+        text.push(b'\n')?;
+    }
+    Ok(text)
+}
+
 /// The first lines of the book, so many of them, and these behind them.
 pub fn book_of(alloc: Global, kept: usize, more: &[&str]) -> Result<Vec<u8>, AllocError> {
     let mut text = Vec::new(alloc);
