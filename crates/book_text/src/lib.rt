@@ -11,6 +11,8 @@ mod lines;
 mod outside;
 pub mod read;
 mod split;
+#[cfg(test)]
+mod tests;
 mod whole;
 
 pub use book_lines::LineFault;
