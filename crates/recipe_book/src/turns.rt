@@ -3,7 +3,7 @@
 ghost use Rattle.std.specs.Prelude.{◌≡◌, ◌+◌, ◌≤◌, IfOk, OnOk, length};
 ghost use Rattle.std.specs.List.{AllByRecursion};
 ghost use Rattle.book_parts.specs.Limits.{AreProper};
-ghost use Rattle.book_parts.specs.Proper.{IsProperKind, IsProperTurn};
+ghost use Rattle.book_parts.specs.Proper.{IsProperTurn};
 ghost use Rattle.recipe_turn.specs.Elbows.{raws};
 ghost use Rattle.recipe_book.specs.Entries.{AreTheSound};
 ghost use Rattle.recipe_book.specs.Verdicts.{IsTurnVerdict};
@@ -29,7 +29,6 @@ fn judge_turn<L: Ledger>(
 ) -> Result<Result<CheckedTurn, TurnRefusal>, NoMemory>
     requires settings { AreProper settings.now }
     requires same { kinds.now.settings ≡ settings.now }
-    requires kinds { AllByRecursion IsProperKind kinds.now.raw }
     requires turn { IsProperTurn (length kinds.now.raw) turn }
     ensures judged { IfOk result (λ judged. IsJudgedTurn settings.now kinds.now.raw turn judged) }
     ensures least { steps.old ≤ steps.new }
@@ -53,7 +52,6 @@ pub(crate) fn sound_turns<L: Ledger>(
 ) -> Result<Vec<CheckedTurn>, NoMemory>
     requires settings { AreProper settings.now }
     requires same { kinds.now.settings ≡ settings.now }
-    requires kinds { AllByRecursion IsProperKind kinds.now.raw }
     requires turns { AllByRecursion (IsProperTurn (length kinds.now.raw)) turns.items }
     ensures sound { IfOk result (λ found. AreTheSound settings.now kinds.now.raw turns.items (raws found.items)) }
     ensures kept { IfOk result (λ found. AllByRecursion (IsKeptTurn settings.now kinds.now.raw) found.items) }

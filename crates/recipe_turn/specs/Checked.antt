@@ -8,7 +8,7 @@ use Rattle.book_parts.specs.declared.settings.Settings.{Settings}
 use Rattle.book_parts.specs.declared.kind.RawKind.{RawKind}
 use Rattle.book_parts.specs.declared.turn.RawTurn.{RawTurn}
 use Rattle.book_parts.specs.Kinds.{kind_plane, next_plane}
-use Rattle.book_parts.specs.Proper.{IsProperTurn}
+use Rattle.book_parts.specs.Proper.{IsProperKind, IsProperTurn}
 use Rattle.book_parts.specs.contracts.turn.RawTurn as raw_turn
 use Rattle.book_parts.specs.contracts.settings.Settings as settings_row
 use Rattle.recipe_turn.specs.Kind.{IsValidKind}
@@ -29,6 +29,11 @@ coded_kinds = code_by (List RawKind × Settings) (coded× (coded_list coded_kind
 -- each kind is valid under these settings
 abbrev pub AreValid : Settings → List RawKind → Type 0
 AreValid settings kinds = AllByRecursion (λ (kind : RawKind). IsValidKind settings (alive kind.cells)) kinds
+
+-- checked kinds are proper, and valid under their settings
+pub record AreChecked (kinds : CheckedKinds) : Type 0 where
+  pub proper : AllByRecursion IsProperKind kinds.raw
+  pub valid : AreValid kinds.settings kinds.raw
 
 -- A turn, with what it was checked under: the settings, how many kinds there were, the cells of its kind, and those of the kind that
 -- it leads to (none where it closes).

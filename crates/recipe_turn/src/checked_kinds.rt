@@ -4,7 +4,7 @@ ghost use Rattle.std.specs.Prelude.{◌≡◌, ◌+◌, ◌≤◌, IfOk, IfErr, 
 ghost use Rattle.std.specs.List.{AllByRecursion};
 ghost use Rattle.book_parts.specs.Limits.{AreProper};
 ghost use Rattle.book_parts.specs.Proper.{IsProperKind};
-ghost use Rattle.recipe_turn.specs.Checked.{AreValid};
+ghost use Rattle.recipe_turn.specs.Checked.{AreChecked, AreValid};
 ghost use Rattle.recipe_turn.specs.Refusals.{KindsAreRefused};
 
 use crate::kinds::test_kind;
@@ -16,7 +16,7 @@ use std::marker::Model;
 use std::snapshot::Snapshot;
 use std::sync::ledger::Ledger;
 
-/// Kinds of elbow that are valid: still lifes in their place. Contracts see beside them the settings with which they were checked.
+/// Kinds of elbow that are proper and valid: still lifes in their place. Contracts see beside them the settings with which they were checked.
 #[derive(Drop)]
 pub struct Kinds {
     raw: Vec<RawKind>,
@@ -24,7 +24,7 @@ pub struct Kinds {
 }
 
 impl Model for Kinds {
-    ghost use Rattle.recipe_turn.specs.Checked.{CheckedKinds, AreValid, coded_kinds};
+    ghost use Rattle.recipe_turn.specs.Checked.{CheckedKinds, AreChecked, coded_kinds};
 
     ghost Value = { CheckedKinds };
 
@@ -32,14 +32,14 @@ impl Model for Kinds {
 
     ghost view = { λ k. record { raw = k.raw.items; settings = k.settings.value } };
 
-    ghost invariant = { λ k. AreValid k.settings.value k.raw.items };
+    ghost invariant = { λ k. AreChecked (record { raw = k.raw.items; settings = k.settings.value }) };
 }
 
 impl Kinds {
     /// The kinds. It takes no memory.
     pub fn raw(&self) -> &[RawKind]
         ensures raw { result.now ≡ self.now.raw }
-        ensures valid { AreValid self.now.settings self.now.raw }
+        ensures checked { AreChecked self.now }
     {
         &self.raw
     }

@@ -3,8 +3,7 @@
 ghost use Rattle.std.specs.Prelude.{◌≡◌, ◌+◌, ◌≤◌, IfOk, IfErr, length};
 ghost use Rattle.book_parts.specs.Limits.{AreProper};
 ghost use Rattle.book_parts.specs.Kinds.{kind_plane, next_plane};
-ghost use Rattle.book_parts.specs.Proper.{IsProperTurn, IsProperKind};
-ghost use Rattle.std.specs.List.{AllByRecursion};
+ghost use Rattle.book_parts.specs.Proper.{IsProperTurn};
 ghost use Rattle.recipe_turn.specs.Checked.{IsChecked, IsOf};
 ghost use Rattle.recipe_turn.specs.Refusals.{TurnIsRefused};
 
@@ -62,7 +61,6 @@ pub fn check_turn<L: Ledger>(
 ) -> Result<CheckedTurn, (RawTurn, TurnRefusal)>
     requires settings { AreProper settings.now }
     requires same { kinds.now.settings ≡ settings.now }
-    requires kinds { AllByRecursion IsProperKind kinds.now.raw }
     requires turn { IsProperTurn (length kinds.now.raw) turn }
     ensures raw { IfOk result (λ checked. checked.raw ≡ turn) }
     ensures under { IfOk result (λ checked. IsOf settings.now kinds.now.raw checked) }

@@ -12,8 +12,8 @@ next_cells-next-requires-clause-none g c = ap alive c.empty-none.ensures ∙ ali
 
 pub test_turn-requires-clause-kind : goal.test_turn-requires-clause-kind
 test_turn-requires-clause-kind g c =
-    subst IsPlaced (sym c.kind_cells-kind.ensures) (kind_placed _ (subst (AllByRecursion IsProperKind) (sym c.raw.ensures.raw) c.requires.kinds) c.args.turn.kind)
+    subst IsPlaced (sym c.kind_cells-kind.ensures) (kind_placed _ (subst (AllByRecursion IsProperKind) (sym c.raw.ensures.raw) c.raw.ensures.checked.proper) c.args.turn.kind)
 
 pub test_turn-requires-clause-next : goal.test_turn-requires-clause-next
 test_turn-requires-clause-next g c =
-    subst IsPlaced (sym c.next_cells-next.ensures) (next_placed _ (subst (AllByRecursion IsProperKind) (sym c.raw-2.ensures.raw) c.requires.kinds) c.args.turn.end)
+    subst IsPlaced (sym c.next_cells-next.ensures) (next_placed _ (subst (AllByRecursion IsProperKind) (sym c.raw-2.ensures.raw) c.raw-2.ensures.checked.proper) c.args.turn.end)
