@@ -5,6 +5,7 @@ use Rattle.std.specs.Int.{int_min, int_max}
 use Rattle.std.proofs.lemmas.Int.{ints, clamps}
 use Rattle.std.proofs.lemmas.List.{take_all}
 use Rattle.std.proofs.lemmas.List.Folds.{list_any_more}
+use Rattle.std.proofs.lemmas.Bool.{or_cases}
 use Rattle.life_cells.specs.declared.cell.Cell.{Cell}
 use Rattle.life_cells.specs.declared.bounds.Bounds.{Bounds}
 use Rattle.life_cells.specs.Boxes.{IsLeastBox}
@@ -14,7 +15,6 @@ use Rattle.life_cells.proofs.Places.{alive_of_order}
 use Rattle.life_cells.specs.Listed.{same_cell, listed}
 use Rattle.life_cells.specs.Order.{same_cell_is, same_cell-itself}
 use Rattle.life_plane.specs.Plane.{Plane, union, same_plane}
-use Rattle.life_plane.specs.Strips.{either}
 
 -- the box of one cell
 abbrev pub box_at : Cell → Bounds
@@ -48,7 +48,7 @@ least_of_one c = record {
 pub least_of_more : (b : Bounds) (s : Plane) (c : Cell) → IsLeastBox b s → IsLeastBox (box_with b c) (union s (lone c))
 least_of_more b s c h = record {
   holds = record {
-    each = λ x y l. elim (either (s x y) (lone c x y) l) [
+    each = λ x y l. elim (or_cases (s x y) (lone c x y) l) [
       | inl k ↦ let i = h.holds.each x y k in
           record { right_of_left = omega (arith, ints, clamps, i.right_of_left); below_top = omega (arith, ints, clamps, i.below_top); left_of_right = omega (arith, ints, clamps, i.left_of_right); above_bottom = omega (arith, ints, clamps, i.above_bottom) }
       | inr k ↦ let e = same_cell_is (cell x y) c k in let ex : x ≡ c.x = ap (λ (d : Cell). d.x) e in let ey : y ≡ c.y = ap (λ (d : Cell). d.y) e in

@@ -8,7 +8,7 @@ use Rattle.std.specs.Ordering.{is_lt, int_cmp, ordering_then, ordering_reverse}
 use Rattle.std.specs.Cmp.{int_cmp_is}
 use Rattle.std.specs.List.{AllWithin}
 use Rattle.std.proofs.lemmas.Int.{ints}
-use Rattle.std.proofs.lemmas.Bool.{cases_lt}
+use Rattle.std.proofs.lemmas.Bool.{cases_lt, or_cases}
 use Rattle.std.proofs.lemmas.List.{get_or_default}
 use Rattle.std.proofs.lemmas.List.Folds.{list_any_more}
 use Rattle.std.proofs.lemmas.Map.Keys.{Less-from_sorted}
@@ -21,7 +21,6 @@ use Rattle.life_cells.specs.Laws.{place_of_listed}
 use Rattle.life_cells.specs.Order.{cells_total, same_cell_is, comes_before, before_by_row, before_in_row}
 use Rattle.life_cells.proofs.Places.{place_listed, alive_of_order}
 use Rattle.life_plane.specs.Apart.{Apart}
-use Rattle.life_plane.specs.Strips.{either}
 
 -- ---- one test
 
@@ -181,13 +180,13 @@ pub five_rows : (s : ℤ → ℤ → Bool) (x y : ℤ) (a b c d e : Bool) → Fi
 five_rows s x y a b c d e ha hb hc hd he = (there, here)
   where
     there : ((((a || b) || c) || d) || e) ≡ true → Close s x y
-    there h = elim (either (((a || b) || c) || d) e h) [
+    there h = elim (or_cases (((a || b) || c) || d) e h) [
       | inr k ↦ close_by_row s x y (y +ℤ pos 2) (omega (arith, ints)) (omega (arith, ints)) (he.0 k)
-      | inl h4 ↦ elim (either ((a || b) || c) d h4) [
+      | inl h4 ↦ elim (or_cases ((a || b) || c) d h4) [
         | inr k ↦ close_by_row s x y (y +ℤ pos 1) (omega (arith, ints)) (omega (arith, ints)) (hd.0 k)
-        | inl h3 ↦ elim (either (a || b) c h3) [
+        | inl h3 ↦ elim (or_cases (a || b) c h3) [
           | inr k ↦ close_by_row s x y (y +ℤ pos 0) (omega (arith, ints)) (omega (arith, ints)) (hc.0 k)
-          | inl h2 ↦ elim (either a b h2) [
+          | inl h2 ↦ elim (or_cases a b h2) [
             | inr k ↦ close_by_row s x y (y +ℤ negsuc 0) (omega (arith, ints)) (omega (arith, ints)) (hb.0 k)
             | inl k ↦ close_by_row s x y (y +ℤ negsuc 1) (omega (arith, ints)) (omega (arith, ints)) (ha.0 k)
           ]
@@ -272,7 +271,7 @@ not_apart left right i z lt close h = h.far (get_or left i z).x (get_or left i z
 pub apart_more : (left right : List Cell) (i : ℕ) (z : Cell) → i < length left → (Close (listed right) (get_or left i z).x (get_or left i z).y → ⊥) → Apart (listed (take i left)) (listed right)
     → Apart (listed (take (i + 1) left)) (listed right)
 apart_more left right i z lt none h = record {
-  far = λ x y a b l k w. elim (either (listed (take i left) x y) (same_cell (cell x y) (get_or left i z)) (sym (list_any_more (same_cell (cell x y)) left i z lt) ∙ l)) [
+  far = λ x y a b l k w. elim (or_cases (listed (take i left) x y) (same_cell (cell x y) (get_or left i z)) (sym (list_any_more (same_cell (cell x y)) left i z lt) ∙ l)) [
     | inl there ↦ h.far x y a b there k w
     | inr here ↦ none (subst (λ (p : Cell). Close (listed right) p.x p.y) (same_cell_is (cell x y) (get_or left i z) here) (record { a = a; b = b; lives = k; near = w }))
   ];

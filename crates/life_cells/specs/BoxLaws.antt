@@ -4,6 +4,7 @@ use Rattle.std.specs.List.{All}
 use Rattle.std.proofs.Common.{sym, ◌∙◌, subst, arith, inl, inr}
 use Rattle.std.proofs.lemmas.Int.{ints}
 use Rattle.std.proofs.lemmas.Option.{slice_get_within, get_or_from_slice_get}
+use Rattle.std.proofs.lemmas.Bool.{or_cases}
 use Rattle.life_cells.specs.declared.bounds.Bounds.{Bounds}
 use Rattle.life_cells.specs.declared.cell.Cell.{Cell}
 use Rattle.life_cells.specs.Cells.{cell, alive, from_list}
@@ -11,7 +12,6 @@ use Rattle.life_cells.specs.Laws.{alive-from_list_at, place_of_listed}
 use Rattle.life_cells.specs.Boxes.{IsInRange, IsLeastBox, CanMove}
 use Rattle.life_plane.specs.Plane.{Plane, step, run, union}
 use Rattle.life_plane.specs.Apart.{Live, Dead, live_or_dead, dead_step}
-use Rattle.life_plane.specs.Strips.{either}
 
 -- ---- ranges
 
@@ -47,10 +47,10 @@ range_run (suc k) n s h = range_wider ((n + k) + 1) (n + suc k) (step (run k s))
 
 pub range_union : (n : ℕ) (s t : Plane) → IsInRange n s → IsInRange n t → IsInRange n (union s t)
 range_union n s t h k = record {
-  x_low = λ x y l. elim (either (s x y) (t x y) l) [ inl a ↦ h.x_low x y a | inr a ↦ k.x_low x y a ];
-  x_high = λ x y l. elim (either (s x y) (t x y) l) [ inl a ↦ h.x_high x y a | inr a ↦ k.x_high x y a ];
-  y_low = λ x y l. elim (either (s x y) (t x y) l) [ inl a ↦ h.y_low x y a | inr a ↦ k.y_low x y a ];
-  y_high = λ x y l. elim (either (s x y) (t x y) l) [ inl a ↦ h.y_high x y a | inr a ↦ k.y_high x y a ];
+  x_low = λ x y l. elim (or_cases (s x y) (t x y) l) [ inl a ↦ h.x_low x y a | inr a ↦ k.x_low x y a ];
+  x_high = λ x y l. elim (or_cases (s x y) (t x y) l) [ inl a ↦ h.x_high x y a | inr a ↦ k.x_high x y a ];
+  y_low = λ x y l. elim (or_cases (s x y) (t x y) l) [ inl a ↦ h.y_low x y a | inr a ↦ k.y_low x y a ];
+  y_high = λ x y l. elim (or_cases (s x y) (t x y) l) [ inl a ↦ h.y_high x y a | inr a ↦ k.y_high x y a ];
 }
 
 -- cells of a small range keep 64 bits in a small move

@@ -3,6 +3,7 @@ use Rattle.std.proofs.Common.{◌≡◌, ◌↔◌, IsTrue, ℕ, ◌+◌, ◌<�
 use Rattle.std.specs.Prelude.{ℤ}
 use Rattle.std.proofs.lemmas.List.{take_all}
 use Rattle.std.proofs.lemmas.List.Folds.{list_any_more, list_any_at}
+use Rattle.std.proofs.lemmas.Bool.{or_cases}
 use Rattle.life_cells.specs.declared.cell.Cell.{Cell}
 use Rattle.life_cells.specs.Cells.{cell, Cells, in_order, alive}
 use Rattle.life_cells.specs.Boxes.{IsInRange}
@@ -11,7 +12,7 @@ use Rattle.life_cells.specs.Laws.{alive-in_order}
 use Rattle.life_cells.specs.Listed.{same_cell, listed}
 use Rattle.life_cells.specs.Order.{same_cell_is, same_cell-itself}
 use Rattle.life_plane.specs.Plane.{Plane}
-use Rattle.life_plane.specs.Strips.{Each, either}
+use Rattle.life_plane.specs.Strips.{Each}
 
 -- what is listed in order is what lives
 pub alive_of_order : (cs : List Cell) (s : Cells) → cs ≡ in_order s → listed cs ≡ alive s
@@ -32,7 +33,7 @@ place_in_range n cs s i d range e lt =
 -- one cell more
 pub each_more : (P : ℤ → ℤ → Type 0) (cs : List Cell) (i : ℕ) (d : Cell) → i < length cs → P (get_or cs i d).x (get_or cs i d).y → Each P (listed (take i cs)) → Each P (listed (take (i + 1) cs))
 each_more P cs i d lt here before x y live =
-    elim (either (listed (take i cs) x y) (same_cell (cell x y) (get_or cs i d)) (sym (list_any_more (same_cell (cell x y)) cs i d lt) ∙ live)) [
+    elim (or_cases (listed (take i cs) x y) (same_cell (cell x y) (get_or cs i d)) (sym (list_any_more (same_cell (cell x y)) cs i d lt) ∙ live)) [
       | inl h ↦ before x y h
       | inr h ↦ subst (λ (c : Cell). P c.x c.y) (sym (same_cell_is (cell x y) (get_or cs i d) h)) here
     ]

@@ -1,8 +1,8 @@
 -- Cells of a set in front of the wall, looked at one by one.
 use Rattle.std.proofs.Common.{◌≡◌, ◌↔◌, IsTrue, ℕ, ◌+◌, ◌<◌, ◌≤◌, Bool, true, false, ℤ, pos, ◌+ℤ◌, ◌-ℤ◌, List, length, get_or, refl, sym, ap, ◌∙◌}
 use Rattle.std.specs.Prelude.{◌&&◌, int_le}
+use Rattle.std.proofs.lemmas.Bool.{and_parts}
 use Rattle.life_plane.specs.Plane.{Plane, nothing, same_plane}
-use Rattle.life_plane.specs.Finite.{both_true}
 use Rattle.life_cells.specs.declared.cell.Cell.{Cell}
 use Rattle.life_cells.specs.Cells.{IsRising, Cells, alive, in_order}
 use Rattle.life_cells.specs.Listed.{listed}
@@ -30,12 +30,12 @@ pub first_past : (w : ℤ) (cs : List Cell) (s : Cells) (i : ℕ) (z : Cell) →
     past w (get_or cs i z) ≡ true → IsFirstLive (get_or cs i z) (beyond w (alive s))
 first_past w cs s i z order rises lt none here = record {
   lives = and_true _ _ (place_lives cs s i z order lt) here;
-  none_before = λ x y live before. let both = both_true _ _ live in first_place (λ d. past w d ≡ true) cs i z rises lt none x y (listed_is_alive cs s order x y ∙ both.0) both.1 before;
+  none_before = λ x y live before. let both = and_parts _ _ live in first_place (λ d. past w d ≡ true) cs i z rises lt none x y (listed_is_alive cs s order x y ∙ both.0) both.1 before;
 }
 
 pub none_past : (w : ℤ) (cs : List Cell) (s : Cells) (n : ℕ) → cs ≡ in_order s → length cs ≤ n → EachBefore (λ d. past w d ≡ true → ⊥) cs n → beyond w (alive s) ≡ nothing
 none_past w cs s n order short none = same_plane _ _ (λ x y. not_true _ (λ live.
-    let both = both_true _ _ live in each_listed (λ d. past w d ≡ true → ⊥) cs n short none x y (listed_is_alive cs s order x y ∙ both.0) both.1))
+    let both = and_parts _ _ live in each_listed (λ d. past w d ≡ true → ⊥) cs n short none x y (listed_is_alive cs s order x y ∙ both.0) both.1))
 
 -- one more cell that is not past the wall
 pub none_more : (w : ℤ) (cs : List Cell) (i : ℕ) (z : Cell) (test : Bool) → i < length cs → EachBefore (λ d. past w d ≡ true → ⊥) cs i → test ≡ past w (get_or cs i z) → test ≡ false →
@@ -50,7 +50,7 @@ all_past w list s n short each = record { each = each_listed (λ d. beyond w s d
 pub only_listed : (w : ℤ) (list cs : List Cell) (s : Cells) (n : ℕ) → cs ≡ in_order s → length cs ≤ n → EachBefore (λ d. past w d ≡ true → listed list d.x d.y ≡ true) cs n →
     IsPartOf (beyond w (alive s)) (listed list)
 only_listed w list cs s n order short each = record {
-  each = λ x y live. let both = both_true _ _ live in each_listed (λ d. past w d ≡ true → listed list d.x d.y ≡ true) cs n short each x y (listed_is_alive cs s order x y ∙ both.0) both.1;
+  each = λ x y live. let both = and_parts _ _ live in each_listed (λ d. past w d ≡ true → listed list d.x d.y ≡ true) cs n short each x y (listed_is_alive cs s order x y ∙ both.0) both.1;
 }
 
 -- one more cell that is listed

@@ -4,12 +4,13 @@ use Rattle.std.specs.Cmp.{signed_Decides}
 use Rattle.std.proofs.lemmas.List.{length-map}
 use Rattle.std.proofs.Common.{refl, ap, sym, ◌∙◌, arith}
 use Rattle.std.proofs.lemmas.Int.{ints}
+use Rattle.std.proofs.lemmas.Bool.{and_parts}
 use Rattle.life_cells.specs.declared.cell.Cell.{Cell}
 use Rattle.life_cells.specs.Cells.{cell}
 use Rattle.life_cells.specs.Listed.{listed, same_cell}
 use Rattle.life_cells.specs.Order.{same_cell_is, same_cell-itself}
 use Rattle.life_plane.specs.Plane.{same_plane}
-use Rattle.life_plane.specs.Finite.{is_at, plane_of, both_true}
+use Rattle.life_plane.specs.Finite.{is_at, plane_of}
 use Rattle.life_plane.specs.Tracks.{stream_glider, phase}
 use Rattle.life_plane.specs.Salvo.{salvo_glider}
 use Rattle.life_gliders.specs.Glider.{glider}
@@ -32,7 +33,7 @@ and_true false b h k = h
 same_place : (d c : Cell) (a b : ℤ) (p : ℤ × ℤ) → (d ≡ c → (a ≡ p.0) × (b ≡ p.1)) → (a ≡ p.0 → b ≡ p.1 → d ≡ c) → same_cell d c ≡ is_at a b p
 same_place d c a b p there back = same_test _ _
     (λ h. let both = there (same_cell_is d c h) in and_true _ _ ((signed_Decides a p.0).1 both.0) ((signed_Decides b p.1).1 both.1))
-    (λ h. let both = both_true _ _ h in ap (same_cell d) (sym (back ((signed_Decides a p.0).0 both.0) ((signed_Decides b p.1).0 both.1))) ∙ same_cell-itself d)
+    (λ h. let both = and_parts _ _ h in ap (same_cell d) (sym (back ((signed_Decides a p.0).0 both.0) ((signed_Decides b p.1).0 both.1))) ∙ same_cell-itself d)
 
 -- a list of cells, each placed
 placed_cells : (f : ℤ × ℤ → Cell) (x y a b : ℤ) → ((p : ℤ × ℤ) → same_cell (cell x y) (f p) ≡ is_at a b p) → (ps : List (ℤ × ℤ)) → listed (map f ps) x y ≡ plane_of ps a b

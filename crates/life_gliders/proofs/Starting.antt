@@ -6,9 +6,9 @@ use Rattle.std.specs.Cmp.{signed_Decides}
 use Rattle.std.specs.declared.cmp.Ordering.TheVariants.{Less}
 use lib.Dec.{T}
 use Rattle.std.proofs.lemmas.Int.{ints}
+use Rattle.std.proofs.lemmas.Bool.{or_cases, and_parts}
 use Rattle.life_plane.specs.Plane.{Plane, nothing}
-use Rattle.life_plane.specs.Strips.{either}
-use Rattle.life_plane.specs.Finite.{plane_of, both_true, each_cell, each_live}
+use Rattle.life_plane.specs.Finite.{plane_of, each_cell, each_live}
 use Rattle.life_plane.specs.Tracks.{stream_glider, stream_glider_at, quartered, Quartered, phase}
 use Rattle.life_plane.specs.Salvo.{salvo_glider, salvo_front}
 use Rattle.life_cells.specs.declared.cell.Cell.{Cell}
@@ -48,9 +48,9 @@ record IsAfterFirst (n : ℕ) (x y : ℤ) : Type 0 where
 
 lies_after_first : (n : ℕ) (x y : ℤ) → plane_of (phase n) x y ≡ true → IsAfterFirst n x y
 lies_after_first n x y live = record {
-  is = elim (either _ _ (each_live (is_after_first (first_of_phase n)) (phase n) (after_first n) x y live)) [
+  is = elim (or_cases _ _ (each_live (is_after_first (first_of_phase n)) (phase n) (after_first n) x y live)) [
     | inl h ↦ inl (less h)
-    | inr h ↦ let both = both_true _ _ h in inr ((signed_Decides y (first_of_phase n).1).0 both.0, at_most both.1)
+    | inr h ↦ let both = and_parts _ _ h in inr ((signed_Decides y (first_of_phase n).1).0 both.0, at_most both.1)
   ];
 }
 

@@ -3,6 +3,7 @@ use Rattle.std.specs.Prelude.{◌≡◌, ◌⊎◌, Bool, true, false, ◌||◌,
 use Rattle.std.proofs.Common.{refl, sym, ap, subst, ◌∙◌, arith, inl, inr}
 use Rattle.std.proofs.lemmas.Int.{ints}
 use Rattle.std.specs.List.{AllByRecursion}
+use Rattle.std.proofs.lemmas.Bool.{or_cases}
 use Rattle.life_cells.specs.Cells.{cell, alive}
 use Rattle.life_cells.specs.Laws.{same_cells}
 use Rattle.life_cells.specs.declared.cell.Cell.{Cell}
@@ -15,7 +16,6 @@ use Rattle.life_islands.specs.Order.{ComesBefore, AreInOrder}
 use Rattle.life_islands.specs.OrderLaws.{one_first_cell, one_comes_before, not_before_itself}
 use Rattle.life_plane.specs.Plane.{Plane, step, union, IsStill, same_plane}
 use Rattle.life_plane.specs.Apart.{Apart, Within, Live, Dead, live_or_dead, dead_step, step_union}
-use Rattle.life_plane.specs.Strips.{either}
 
 -- ---- tests
 
@@ -127,7 +127,7 @@ island_still s t still h = same_plane (step t) t (λ x y. by x y (true_or_false 
         apart.far l.a l.b x y l.lives (both_and (s x y) (t x y) there dead) (turned x y l.a l.b (near_of_one x y l.a l.b l.near))
 
     by : (x y : ℤ) → (t x y ≡ true) ⊎ (t x y ≡ false) → step t x y ≡ t x y
-    by x y (inl lives) = stays x y lives (either (step t x y) (step rest x y) (steps_at x y ∙ h.within (cell x y) lives)) ∙ sym lives
+    by x y (inl lives) = stays x y lives (or_cases (step t x y) (step rest x y) (steps_at x y ∙ h.within (cell x y) lives)) ∙ sym lives
     by x y (inr dead) = elim (true_or_false (step t x y)) [ inl next ↦ absurd (not_born x y dead next) | inr none ↦ none ∙ sym dead ]
 
 -- ---- lists of islands

@@ -2,12 +2,12 @@
 use Rattle.std.proofs.Common.{◌≡◌, ℕ, true, false, Bool, ◌||◌, ℤ, pos, neg_ℤ, Option, Some, None, refl, ap, sym, subst, ◌∙◌, arith, inl, inr, IfSome, IfNone}
 use Rattle.std.specs.Int.{int_min, int_max}
 use Rattle.std.proofs.lemmas.Int.{ints, clamps}
+use Rattle.std.proofs.lemmas.Bool.{or_cases}
 use Rattle.life_cells.specs.declared.bounds.Bounds.{Bounds}
 use Rattle.life_cells.specs.Boxes.{InBox, Holds, IsLeastBox, IsInRange}
 use Rattle.life_cells.specs.Cells.{Cells, alive, empty}
 use Rattle.life_cells.specs.Laws.{alive-empty}
 use Rattle.life_plane.specs.Plane.{Plane, union, nothing, same_plane}
-use Rattle.life_plane.specs.Strips.{either}
 use Rattle.recipe_hit.specs.Joins.{IsBoxOf, IsBoxInRange}
 
 -- the box about two boxes
@@ -40,7 +40,7 @@ in_join_right a b x y i = record {
 -- it is the least about both planes
 pub join_least : (a b : Bounds) (s t : Plane) → IsLeastBox a s → IsLeastBox b t → IsLeastBox (join_of a b) (union s t)
 join_least a b s t h k = record {
-  holds = record { each = λ x y l. elim (either (s x y) (t x y) l) [ inl p ↦ in_join_left a b x y (h.holds.each x y p) | inr p ↦ in_join_right a b x y (k.holds.each x y p) ] };
+  holds = record { each = λ x y l. elim (or_cases (s x y) (t x y) l) [ inl p ↦ in_join_left a b x y (h.holds.each x y p) | inr p ↦ in_join_right a b x y (k.holds.each x y p) ] };
   least = λ other out.
       let u = h.least other (record { each = λ x y l. out.each x y (in_left (s x y) (t x y) l) }) in
       let v = k.least other (record { each = λ x y l. out.each x y (in_right (s x y) (t x y) l) }) in

@@ -2,9 +2,9 @@
 use Rattle.std.proofs.Common.{◌≡◌, ℕ, ◌^◌, true, ℤ, pos, neg_ℤ, ◌-ℤ◌, ◌≤ℤ◌, List, [], ◌∷◌, inl, inr, sym, arith}
 use Rattle.std.specs.List.{AllByRecursion}
 use Rattle.std.proofs.lemmas.Int.{ints}
+use Rattle.std.proofs.lemmas.Bool.{or_cases}
 use Rattle.life_plane.specs.Plane.{Plane, union}
 use Rattle.life_plane.specs.Tracks.{stream_glider, stream_range}
-use Rattle.life_plane.specs.Strips.{either}
 use Rattle.life_cells.specs.Boxes.{IsInRange}
 use Rattle.life_cells.specs.BoxLaws.{range_union}
 use Rattle.book_parts.specs.Limits.{AreProper, IsPlaced}
@@ -38,7 +38,7 @@ gliders_around : (settings : Settings) → AreProper settings → (ds : List ℤ
 gliders_around settings proper [] near x y live = absurd (true≢false (sym live))
 gliders_around settings proper (d ∷ ds) near x y live =
     let range = proper.approach.range in let here = near.0 in
-    elim (either (stream_glider ((pos 0 -ℤ settings.approach) -ℤ d) x y) (gliders settings ds (pos 0) x y) live) [
+    elim (or_cases (stream_glider ((pos 0 -ℤ settings.approach) -ℤ d) x y) (gliders settings ds (pos 0) x y) live) [
       | inl h ↦ glider_around ((pos 0 -ℤ settings.approach) -ℤ d) x y (omega (arith, ints)) (omega (arith, ints)) h
       | inr h ↦ gliders_around settings proper ds near.1 x y h
     ]

@@ -3,9 +3,9 @@ use Rattle.std.specs.Prelude.{◌≡◌, ◌⊎◌, true, ℕ, ◌+◌, ◌*◌,
 use Rattle.std.specs.List.{AllByRecursion}
 use Rattle.std.proofs.Common.{arith, inl, inr}
 use Rattle.std.proofs.lemmas.Int.{ints}
+use Rattle.std.proofs.lemmas.Bool.{or_cases}
 use Rattle.life_plane.specs.Plane.{Plane, union}
 use Rattle.life_plane.specs.Tracks.{stream_glider, stream_range}
-use Rattle.life_plane.specs.Strips.{either}
 use Rattle.life_cells.specs.Boxes.{IsInRange}
 use Rattle.book_parts.specs.Limits.{IsFrom, IsApproach, IsPlaced}
 use Rattle.book_parts.specs.Proper.{IsDelay, IsProperTurn}
@@ -42,7 +42,7 @@ glider_near settings a time d x y when from h =
 gliders_near : (settings : Settings) → IsApproach settings.approach → (ds : List ℤ) (time : ℤ) → IsFrom (neg_ℤ (pos (2 ^ 56))) (pos (2 ^ 56)) time → AllByRecursion IsDelay ds → (x y : ℤ) → gliders settings ds time x y ≡ true → IsNear x y
 gliders_near settings a [] time when all x y h = cc
 gliders_near settings a (d ∷ ds) time when all x y h =
-    by_part (gliders_near settings a ds time when all.1 x y) (either _ _ h)
+    by_part (gliders_near settings a ds time when all.1 x y) (or_cases _ _ h)
   where
     by_part : (gliders settings ds time x y ≡ true → IsNear x y) → (stream_glider ((time -ℤ settings.approach) -ℤ d) x y ≡ true) ⊎ (gliders settings ds time x y ≡ true) → IsNear x y
     by_part rest (inl p) = glider_near settings a time d x y when all.0 p
@@ -79,7 +79,7 @@ pub stream_near : (settings : Settings) → IsApproach settings.approach → (ki
     (x y : ℤ) → stream settings (timed turns shift start) x y ≡ true → IsNear x y
 stream_near settings a kinds [] all before shift start few e x y h = cc
 stream_near settings a kinds (turn ∷ turns) all before shift start few e x y h =
-    by_part (stream_near settings a kinds turns all.1 (before + 1) (shift +ℤ step_of turn.end) ((start + turn.n) + wait turn.end) (omega arith) (early_more kinds before shift start turn all.0 e) x y) (either _ _ h)
+    by_part (stream_near settings a kinds turns all.1 (before + 1) (shift +ℤ step_of turn.end) ((start + turn.n) + wait turn.end) (omega arith) (early_more kinds before shift start turn all.0 e) x y) (or_cases _ _ h)
   where
     by_part : (stream settings (timed turns (shift +ℤ step_of turn.end) ((start + turn.n) + wait turn.end)) x y ≡ true → IsNear x y) →
         (gliders settings turn.delays (pos 4 *ℤ shift -ℤ pos start) x y ≡ true) ⊎ (stream settings (timed turns (shift +ℤ step_of turn.end) ((start + turn.n) + wait turn.end)) x y ≡ true) → IsNear x y
@@ -93,7 +93,7 @@ placed_near s p x y h =
 
 -- both together
 pub both_near : (s t : Plane) → ((x y : ℤ) → s x y ≡ true → IsNear x y) → ((x y : ℤ) → t x y ≡ true → IsNear x y) → (x y : ℤ) → union s t x y ≡ true → IsNear x y
-both_near s t p q x y h = by_part (either _ _ h)
+both_near s t p q x y h = by_part (or_cases _ _ h)
   where
     by_part : (s x y ≡ true) ⊎ (t x y ≡ true) → IsNear x y
     by_part (inl a) = p x y a
