@@ -6,7 +6,7 @@ use Rattle.book_lines.specs.declared.fault.LineError.{LineError}
 use Rattle.book_lines.specs.declared.fault.LineError.TheVariants.{Fault, Memory}
 use Rattle.book_lines.specs.declared.keyword.Keyword.{Keyword}
 use Rattle.book_lines.specs.declared.statement.Statement.{Statement}
-use Rattle.book_lines.specs.Lines.{words}
+use Rattle.text_lines.specs.Blanks.{words}
 use Rattle.book_lines.specs.Values.{Level}
 use Rattle.book_lines.specs.Statements.{spelling, keyword, ItemsState, StatesAt, States}
 use Rattle.book_lines.specs.Faults.{IsFaultOf, HasKeyword, IsLineFault}

@@ -4,7 +4,7 @@ use Rattle.book_lines.specs.declared.fault.LineFault.{LineFault}
 use Rattle.book_lines.specs.declared.fault.LineFault.TheVariants as fault
 use Rattle.book_lines.specs.declared.keyword.Keyword.{Keyword}
 use Rattle.book_lines.specs.declared.statement.Statement.{Statement}
-use Rattle.book_lines.specs.Lines.{words}
+use Rattle.text_lines.specs.Blanks.{words}
 use Rattle.book_lines.specs.Values.{Level}
 use Rattle.book_lines.specs.Values.Level.{Form, Numbers, Bodies, Whole}
 use Rattle.book_lines.specs.Statements.{spelling, StatesAt}

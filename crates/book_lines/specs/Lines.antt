@@ -1,6 +1,4 @@
--- Lines and their words, as in other texts of patterns: words are separated by spaces and tabs.
-pub use Rattle.life_rle.specs.Blanks.{is_blank_byte, IsBlank, is_comment, IsPassedOver}
-pub use Rattle.life_rle.specs.Text.{words}
+-- The words of a line, behind references.
 use Rattle.std.specs.Prelude.{◌≢◌, ℕ, List, map, codes}
 use Rattle.std.specs.List.{AllByRecursion}
 use denote.Ref.{Bor}

@@ -4,7 +4,7 @@ use Rattle.book_lines.specs.declared.keyword.Keyword.{Keyword}
 use Rattle.book_lines.specs.declared.keyword.Keyword.TheVariants as first
 use Rattle.book_lines.specs.declared.statement.Statement.{Statement}
 use Rattle.book_lines.specs.declared.statement.Statement.TheVariants.{Approach, Wall, Reach, Corner, Room, Span, Lanes, Delays, Hand, Elbow, Start, Turn, Salvo}
-use Rattle.book_lines.specs.Lines.{words}
+use Rattle.text_lines.specs.Blanks.{words}
 use Rattle.book_lines.specs.Values.{Level}
 use Rattle.book_lines.specs.Forms.{IsOneNumber, IsPair, IsSpread, IsBody, IsElbowLine, IsOneName, IsTurnLine, IsSalvoLine}
 

@@ -22,4 +22,4 @@ pub use fault::{LineError, LineFault};
 pub use keyword::Keyword;
 pub use line::statement_of;
 pub use statement::{Body, ElbowLine, Leaves, Placed, SalvoLine, Spread, Statement, TurnLine};
-pub use words::{is_passed_over, words_of};
+pub use words::words_of;

@@ -1,4 +1,3 @@
-pub mod Splits
 pub mod FirstOutside
 pub mod Quarters
 pub mod Wholly

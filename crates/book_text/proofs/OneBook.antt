@@ -4,12 +4,12 @@ use Rattle.std.specs.List.{AllByRecursion, onto_first}
 use Rattle.std.specs.Str.Lines.{lines}
 use Rattle.std.proofs.lemmas.Bool.{false≢true, ne_eqb}
 use Rattle.std.proofs.lemmas.Bool.Decides.{nat_tests}
-use Rattle.book_lines.specs.Lines.{is_blank_byte, is_comment, IsBlank, IsPassedOver, words}
+use Rattle.text_lines.specs.Blanks.{is_blank_byte, is_comment, IsBlank, IsPassedOver, words}
 use Rattle.book_lines.specs.declared.statement.Statement.{Statement}
 use Rattle.book_text.specs.Stated.{Stated, nothing_stated, joined}
 use Rattle.book_text.specs.Reading.{AreFine, IsVersion, IsBegun}
 use Rattle.book_text.specs.Book.{Said, whole, AreRead, Says}
-use Rattle.book_text.proofs.Splits.{some_part}
+use Rattle.text_lines.specs.LineLaws.{split_some}
 use Rattle.book_text.proofs.LineLaws.{LineLaws}
 
 -- ---- the version's line isn't passed over
@@ -22,8 +22,8 @@ kept x more = let some : eqb (length (35 ∷ x)) 0 ≡ false = ne_eqb _ _ (omega
 
 hash_words : (bs : List ℕ) → (x : List ℕ) × ((more : List (List ℕ)) × (words (35 ∷ bs) ≡ (35 ∷ x) ∷ more))
 hash_words bs =
-    let r = some_part is_blank_byte bs in
-    (r.0, (filter (λ w. not (length w == 0)) r.1.0, ap (λ (ps : List (List ℕ)). filter (λ w. not (length w == 0)) (onto_first 35 ps)) r.1.1 ∙ kept r.0 r.1.0))
+    let r = split_some is_blank_byte bs in
+    (r.part, (filter (λ w. not (length w == 0)) r.more, ap (λ (ps : List (List ℕ)). filter (λ w. not (length w == 0)) (onto_first 35 ps)) r.parts_are ∙ kept r.part r.more))
 
 hash_first : (b : ℕ) (bs : List ℕ) → is_comment (b ∷ bs) ≡ true → b ≡ 35
 hash_first b bs h = grind (arith, nat_tests)

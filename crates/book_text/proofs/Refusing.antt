@@ -3,7 +3,7 @@ use Rattle.std.proofs.Common.{◌≡◌, ℕ, ◌+◌, List, [], ◌∷◌, ◌+
 use Rattle.std.specs.List.{AllByRecursion}
 use Rattle.std.proofs.lemmas.List.{length-append}
 use Rattle.book_lines.specs.declared.statement.Statement.{Statement}
-use Rattle.book_lines.specs.Lines.{IsPassedOver}
+use Rattle.text_lines.specs.Blanks.{IsPassedOver}
 use Rattle.book_lines.specs.Statements.{States}
 use Rattle.book_text.specs.declared.error.BookError.{BookError}
 use Rattle.book_text.specs.declared.error.BookError.TheVariants.{BadLine, Doubled, UnknownKind, LimitOver, Missing, WallReach, Memory}

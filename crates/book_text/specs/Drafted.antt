@@ -8,7 +8,7 @@ use Rattle.book_text.specs.Book.{Said, whole}
 use Rattle.std.specs.declared.option.Option.TheVariants.{Some}
 use Rattle.book_parts.specs.declared.settings.Settings.{Settings}
 use Rattle.book_text.specs.declared.draft.Draft.{Draft}
-use Rattle.book_lines.specs.Lines.{IsPassedOver}
+use Rattle.text_lines.specs.Blanks.{IsPassedOver}
 use Rattle.book_lines.specs.declared.statement.Statement.{Statement}
 use Rattle.book_text.specs.Joining.{IsFine}
 use Rattle.book_text.specs.Stated.{Stated, joined}

@@ -1,7 +1,6 @@
 -- What a book's text says.
 pub mod Names
 pub mod Stated
-pub mod Parts
 pub mod Limited
 pub mod Joining
 pub mod Reading

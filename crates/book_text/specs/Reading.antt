@@ -3,7 +3,7 @@ use Rattle.std.specs.Prelude.{◌≡◌, ℕ, ◌+◌, ◌⊎◌, List, [], ◌�
 use Rattle.std.specs.List.{AllByRecursion}
 use Rattle.std.specs.declared.option.Option.TheVariants.{Some, None}
 use Rattle.book_lines.specs.declared.statement.Statement.{Statement}
-use Rattle.book_lines.specs.Lines.{words, IsPassedOver}
+use Rattle.text_lines.specs.Blanks.{words, IsPassedOver}
 use Rattle.book_lines.specs.Statements.{States}
 use Rattle.book_lines.specs.Faults.{IsLineFault}
 use Rattle.book_text.specs.declared.error.BookError.{BookError}

@@ -7,10 +7,8 @@ pub mod error;
 mod joining;
 pub mod laws;
 mod limit;
-mod lines;
 mod outside;
 pub mod read;
-mod split;
 #[cfg(test)]
 mod tests;
 mod whole;

@@ -4,7 +4,8 @@ ghost use Rattle.std.specs.Prelude.{◌≡◌, ◌+◌, ◌≤◌, ◌<◌, ◌^
 ghost use Rattle.std.specs.Str.Lines.{lines};
 ghost use Rattle.book_parts.specs.Proper.{IsProperBook};
 ghost use Rattle.book_lines.specs.declared.statement.Statement.{Statement};
-ghost use Rattle.book_lines.specs.Lines.{texts, IsPassedOver};
+ghost use Rattle.book_lines.specs.Lines.{texts};
+ghost use Rattle.text_lines.specs.Blanks.{IsPassedOver};
 ghost use Rattle.book_lines.specs.Statements.{States};
 ghost use Rattle.book_lines.specs.Counts.{HasSmallCounts};
 ghost use Rattle.book_text.specs.Stated.{Stated, nothing_stated, joined};
@@ -16,13 +17,13 @@ ghost use Rattle.book_text.specs.Drafted.{stated_of, IsKept, IsLineRefusal, IsBo
 use crate::draft::Draft;
 use crate::error::BookError;
 use crate::joining::{is_new, knows_kinds, over};
-use crate::lines::split_line;
 use crate::whole::book_of;
 use book_lines::items::{is_word, two};
-use book_lines::{LineError, LineFault, Statement, is_passed_over, statement_of, words_of};
+use book_lines::{LineError, LineFault, Statement, statement_of, words_of};
 use book_parts::RawBook;
 use life_cells::NoMemory;
 use std::alloc::Global;
+use text_lines::{is_passed_over, split_line};
 
 /// The lines of a book behind the version's, and how many lines stand up to it.
 #[derive(Clone, Copy)]

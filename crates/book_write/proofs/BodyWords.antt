@@ -23,7 +23,8 @@ use Rattle.rle_items.specs.Words.{tag_byte, item_text}
 use Rattle.life_rle.specs.Drawn.{AreSmall}
 use Rattle.rle_items.specs.Faults.{IsNear, AreFine, IsFineWord}
 use Rattle.rle_items.specs.Words.{WordMeans}
-use Rattle.life_rle.specs.ByteLaws.{both, all_append, decimal_passes, small_fits}
+use Rattle.life_rle.specs.ByteLaws.{all_append, decimal_passes, small_fits}
+use Rattle.std.proofs.lemmas.Bool.{and_from}
 use Rattle.rle_items.specs.DrawnCells.{IsDrawn, drawn_none, drawn_push}
 use Rattle.rle_items.specs.DrawnCells.{same_cells as same_planes}
 use Rattle.life_rle.specs.SpellingLaws.{word_means, word_spelled, word_whole}
@@ -184,7 +185,7 @@ count_visible : (n : ℕ) → n < 10 ^ 18 → list_all is_visible (if n == 1 the
 count_visible n h = elim (n == 1) as (λ v. list_all is_visible (if v then [] else decimal n) ≡ true) [ true ↦ refl | false ↦ decimal_passes is_visible digit_visible n (small_fits n h) ]
 
 item_visible : (i : Item) → i.count < 10 ^ 18 → list_all is_visible (item_text i) ≡ true
-item_visible i h = all_append is_visible (if i.count == 1 then [] else decimal i.count) (tag_byte i.tag ∷ []) (count_visible i.count h) (both _ _ (tag_visible i.tag) refl)
+item_visible i h = all_append is_visible (if i.count == 1 then [] else decimal i.count) (tag_byte i.tag ∷ []) (count_visible i.count h) (and_from _ _ (tag_visible i.tag) refl)
 
 pieces_visible : (items : List Item) → AreSmall items → list_all is_visible (flat_map (λ piece. piece) (pieces items)) ≡ true
 pieces_visible [] h = refl

@@ -4,7 +4,6 @@ pub mod Numbering
 pub mod Moving
 -- Lemmas of what is read back.
 pub mod Visible
-pub mod FirstLine
 pub mod Splitting
 pub mod Numerals
 pub mod BodyWords

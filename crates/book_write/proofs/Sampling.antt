@@ -3,7 +3,7 @@ use Rattle.std.proofs.Common.{◌≡◌, ◌≢◌, ℕ, suc, ◌<◌, ◌≤◌
 use Rattle.std.specs.List.{AllByRecursion, list_all}
 use Rattle.std.specs.Str.{bytes_eq}
 use Rattle.std.proofs.lemmas.Int.{ints}
-use Rattle.std.proofs.lemmas.Bool.{leb-true}
+use Rattle.std.proofs.lemmas.Bool.{leb-true, and_parts, not-true}
 use Rattle.std.proofs.lemmas.List.{length-append, map-append, length-map}
 use Rattle.std.proofs.lemmas.List.Sums.{sum_by_push}
 use Rattle.std.proofs.lemmas.Slice.Eq.{bytes_eq-Decides}
@@ -12,7 +12,6 @@ use Rattle.life_cells.specs.declared.bounds.Bounds.{Bounds}
 use Rattle.life_cells.specs.Boxes.{IsLeastBox}
 use Rattle.life_cells.specs.Cells.{Cells, alive, in_order, empty}
 use Rattle.life_cells.specs.Laws.{alive-empty}
-use Rattle.life_rle.specs.ByteLaws.{first, second, not_false}
 use Rattle.book_parts.specs.Limits.{IsName, IsPlaced, AreProper, begins_with_letter, is_name_byte}
 use Rattle.book_parts.specs.Proper.{IsNoneOf, AreDistinct, IsKindNumber, IsProperHand, IsProperKind, IsProperTurn, IsProperSalvo, IsProperBook}
 use Rattle.book_parts.specs.declared.kind.RawKind.{RawKind}
@@ -30,27 +29,27 @@ all_at_places P (x ∷ xs) z h = (h 0 (omega arith), all_at_places P xs z (λ k 
 -- ---- names
 
 other : (xs ys : List ℕ) → not (bytes_eq xs ys) ≡ true → xs ≢ ys
-other xs ys h e = let same = (bytes_eq-Decides xs ys).1 e in let differ = not_false (bytes_eq xs ys) h in cc
+other xs ys h e = let same = (bytes_eq-Decides xs ys).1 e in let differ = not-true (bytes_eq xs ys) h in cc
 
 pub tested_name : (text : List ℕ) → is_name text ≡ true → IsName text
 tested_name text h =
-    let front = first (begins_with_letter text && nat_le (length text) 32) _ h in
-    let back = second (begins_with_letter text && nat_le (length text) 32) _ h in
+    let front = (and_parts (begins_with_letter text && nat_le (length text) 32) _ h).0 in
+    let back = (and_parts (begins_with_letter text && nat_le (length text) 32) _ h).1 in
     record {
-      first = first (begins_with_letter text) _ front;
-      short = leb-true (length text) 32 (second (begins_with_letter text) _ front);
-      bytes = first (list_all is_name_byte text) _ back;
-      other = other text (codes "none") (second (list_all is_name_byte text) _ back);
+      first = (and_parts (begins_with_letter text) _ front).0;
+      short = leb-true (length text) 32 ((and_parts (begins_with_letter text) _ front).1);
+      bytes = (and_parts (list_all is_name_byte text) _ back).0;
+      other = other text (codes "none") ((and_parts (list_all is_name_byte text) _ back).1);
     }
 
 none_of : (names : List (List ℕ)) (name : List ℕ) → list_all (λ o. not (bytes_eq o name)) names ≡ true → IsNoneOf names name
 none_of [] name h = tt
-none_of (o ∷ names) name h = (other o name (first (not (bytes_eq o name)) _ h), none_of names name (second (not (bytes_eq o name)) _ h))
+none_of (o ∷ names) name h = (other o name ((and_parts (not (bytes_eq o name)) _ h).0), none_of names name ((and_parts (not (bytes_eq o name)) _ h).1))
 
 tested_distinct : (names : List (List ℕ)) → are_distinct names ≡ true → AreDistinct names
 tested_distinct [] h = tt
 tested_distinct (name ∷ names) h =
-    (none_of names name (first (list_all (λ o. not (bytes_eq o name)) names) _ h), tested_distinct names (second (list_all (λ o. not (bytes_eq o name)) names) _ h))
+    (none_of names name ((and_parts (list_all (λ o. not (bytes_eq o name)) names) _ h).0), tested_distinct names ((and_parts (list_all (λ o. not (bytes_eq o name)) names) _ h).1))
 
 -- ---- cells
 
@@ -112,14 +111,14 @@ no_salvos salvos e = subst (AreSalvos []) (sym e) (record { proper = tt; names_a
 pub book_proper : (book : RawBook) (ks ts ss : List (List ℕ)) → AreProper book.settings → IsProperHand (alive book.hand) → length (in_order book.hand) ≤ 100
     → AreKinds ks book.kinds.items → AreTurns (length ks) ts book.turns.items → AreSalvos ss book.salvos.items → go_together ks ts ss ≡ true → IsKindNumber (length ks) book.start → IsProperBook book
 book_proper book ks ts ss settings hand few k t v go start =
-    let sizes = first ((nat_le 1 (length ks) && nat_le (length ks) 10) && (nat_le (length ts) 10 && nat_le (length ss) 10)) _ go in
-    let names = second ((nat_le 1 (length ks) && nat_le (length ks) 10) && (nat_le (length ts) 10 && nat_le (length ss) 10)) _ go in
-    let kind_sizes = first (nat_le 1 (length ks) && nat_le (length ks) 10) _ sizes in
-    let entry_sizes = second (nat_le 1 (length ks) && nat_le (length ks) 10) _ sizes in
-    let some = leb-true 1 (length ks) (first (nat_le 1 (length ks)) _ kind_sizes) in
-    let few_kinds = leb-true (length ks) 10 (second (nat_le 1 (length ks)) _ kind_sizes) in
-    let few_turns = leb-true (length ts) 10 (first (nat_le (length ts) 10) _ entry_sizes) in
-    let few_salvos = leb-true (length ss) 10 (second (nat_le (length ts) 10) _ entry_sizes) in
+    let sizes = (and_parts ((nat_le 1 (length ks) && nat_le (length ks) 10) && (nat_le (length ts) 10 && nat_le (length ss) 10)) _ go).0 in
+    let names = (and_parts ((nat_le 1 (length ks) && nat_le (length ks) 10) && (nat_le (length ts) 10 && nat_le (length ss) 10)) _ go).1 in
+    let kind_sizes = (and_parts (nat_le 1 (length ks) && nat_le (length ks) 10) _ sizes).0 in
+    let entry_sizes = (and_parts (nat_le 1 (length ks) && nat_le (length ks) 10) _ sizes).1 in
+    let some = leb-true 1 (length ks) ((and_parts (nat_le 1 (length ks)) _ kind_sizes).0) in
+    let few_kinds = leb-true (length ks) 10 ((and_parts (nat_le 1 (length ks)) _ kind_sizes).1) in
+    let few_turns = leb-true (length ts) 10 ((and_parts (nat_le (length ts) 10) _ entry_sizes).0) in
+    let few_salvos = leb-true (length ss) 10 ((and_parts (nat_le (length ts) 10) _ entry_sizes).1) in
     let kinds_many : length ks ≡ length book.kinds.items = ap length (sym k.names_are) ∙ length-map book.kinds.items (λ (kind : RawKind). kind.name) in
     let turns_many : length ts ≡ length book.turns.items = ap length (sym t.names_are) ∙ length-map book.turns.items (λ (turn : RawTurn). turn.name) in
     let salvos_many : length ss ≡ length book.salvos.items = ap length (sym v.names_are) ∙ length-map book.salvos.items (λ (salvo : RawSalvo). salvo.name) in
@@ -131,12 +130,12 @@ book_proper book ks ts ss settings hand few k t v go start =
       some_kind = omega arith;
       few_kinds = omega arith;
       kinds = k.proper;
-      kind_names = subst AreDistinct (sym k.names_are) (tested_distinct ks (first (are_distinct ks) _ names));
+      kind_names = subst AreDistinct (sym k.names_are) (tested_distinct ks ((and_parts (are_distinct ks) _ names).0));
       start = subst (λ n. IsKindNumber n book.start) kinds_many start;
       few_turns = omega arith;
       turns = subst (λ n. AllByRecursion (IsProperTurn n) book.turns.items) kinds_many t.proper;
       few_salvos = omega arith;
       salvos = v.proper;
-      names = subst AreDistinct (λ i. sym t.names_are i ++ sym v.names_are i) (tested_distinct (ts ++ ss) (second (are_distinct ks) _ names));
+      names = subst AreDistinct (λ i. sym t.names_are i ++ sym v.names_are i) (tested_distinct (ts ++ ss) ((and_parts (are_distinct ks) _ names).1));
       few_cells = omega arith;
     }

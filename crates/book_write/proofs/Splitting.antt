@@ -7,13 +7,11 @@ use Rattle.std.proofs.lemmas.List.Splits.{slice_split_at, slice_split_none}
 use Rattle.std.proofs.lemmas.List.Sums.{AllPass-from_list_all}
 use Rattle.std.proofs.lemmas.Bool.{ne_eqb}
 use Rattle.std.proofs.lemmas.Bool.Decides.{nat_tests}
-use Rattle.life_rle.specs.Text.{words}
-use Rattle.life_rle.specs.Blanks.{is_blank_byte, IsPassedOver}
-use Rattle.life_rle.specs.ByteLaws.{all_append}
-use Rattle.life_rle.specs.LineLaws.{strip_same}
-use Rattle.book_write.proofs.FirstLine.{lines_first}
+use Rattle.text_lines.specs.Blanks.{words, is_blank_byte, IsPassedOver}
+use Rattle.life_rle.specs.ByteLaws.{all_append, weaker}
+use Rattle.text_lines.specs.LineLaws.{strip_same, lines_first}
 use Rattle.book_write.specs.Laid.{spaced, line_of, text_of}
-use Rattle.book_write.proofs.Visible.{is_visible, no_blank, all_weaker, IsWord}
+use Rattle.book_write.proofs.Visible.{is_visible, no_blank, IsWord}
 
 -- ---- words
 
@@ -52,11 +50,11 @@ no_return b h = grind (arith, nat_tests)
 
 spaced_inner : (ws : List (List ℕ)) → AllByRecursion IsWord ws → list_all is_inner (spaced ws) ≡ true
 spaced_inner [] each = refl
-spaced_inner (w ∷ ws) each = all_append is_inner w (spaced ws) (all_weaker is_visible is_inner visible_inner w each.0.bytes) (spaced_inner ws each.1)
+spaced_inner (w ∷ ws) each = all_append is_inner w (spaced ws) (weaker is_visible is_inner visible_inner w each.0.bytes) (spaced_inner ws each.1)
 
 line_inner : (ws : List (List ℕ)) → AllByRecursion IsWord ws → list_all is_inner (line_of ws) ≡ true
 line_inner [] each = refl
-line_inner (w ∷ ws) each = all_append is_inner w (spaced ws) (all_weaker is_visible is_inner visible_inner w each.0.bytes) (spaced_inner ws each.1)
+line_inner (w ∷ ws) each = all_append is_inner w (spaced ws) (weaker is_visible is_inner visible_inner w each.0.bytes) (spaced_inner ws each.1)
 
 -- the lines of a text are those that it is made of
 pub lines_are : (ls : List (List (List ℕ))) → AllByRecursion (AllByRecursion IsWord) ls → lines (text_of ls) ≡ map line_of ls
@@ -64,8 +62,8 @@ lines_are [] each = refl
 lines_are (ws ∷ ls) each =
     let inner = line_inner ws each.0 in
     ap lines (append_assoc (line_of ws) (10 ∷ []) (text_of ls))
-    ∙ lines_first (line_of ws) (text_of ls) (all_weaker is_inner (λ b. not (b == 10)) no_feed (line_of ws) inner)
-    ∙ (λ i. strip_same (line_of ws) (all_weaker is_inner (λ b. not (b == 13)) no_return (line_of ws) inner) i ∷ lines_are ls each.1 i)
+    ∙ lines_first (line_of ws) (text_of ls) (weaker is_inner (λ b. not (b == 10)) no_feed (line_of ws) inner)
+    ∙ (λ i. strip_same (line_of ws) (weaker is_inner (λ b. not (b == 13)) no_return (line_of ws) inner) i ∷ lines_are ls each.1 i)
 
 -- ---- no line is passed over
 

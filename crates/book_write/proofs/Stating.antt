@@ -10,7 +10,7 @@ use Rattle.life_cells.specs.Cells.{Cells, cell, alive, in_order, empty}
 use Rattle.life_cells.specs.Laws.{same_cells, alive-empty, in_order-empty}
 use Rattle.life_cells.specs.Boxes.{IsInRange}
 use Rattle.life_cells.specs.BoxLaws.{range_wider}
-use Rattle.life_rle.specs.Blanks.{IsPassedOver}
+use Rattle.text_lines.specs.Blanks.{IsPassedOver}
 use Rattle.life_rle.specs.Written.{IsBodyText}
 use Rattle.book_parts.specs.Limits.{IsName, IsCoordinate, IsPlaced}
 use Rattle.book_parts.specs.Proper.{HasLife, IsProperEnd, IsProperTurn, IsProperKind, IsProperPlace, IsProperSalvo, IsProperHand, IsDelay, IsIndex}

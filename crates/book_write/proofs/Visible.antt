@@ -1,10 +1,10 @@
 -- Bytes of words: each is past the space.
-use Rattle.std.proofs.Common.{◌≡◌, ℕ, ◌<◌, ◌≤◌, Bool, true, false, ◌==◌, ◌||◌, List, [], ◌∷◌, length, get_or, refl, ap, arith, nat_lt}
+use Rattle.std.proofs.Common.{◌≡◌, ℕ, ◌<◌, ◌≤◌, Bool, true, false, ◌==◌, ◌||◌, List, [], ◌∷◌, length, get_or, ap, arith, nat_lt}
 use Rattle.std.specs.List.{list_all}
 use Rattle.std.proofs.lemmas.Bool.{eqb-false}
+use Rattle.life_rle.specs.ByteLaws.{weaker}
 use Rattle.std.proofs.lemmas.Bool.Decides.{nat_tests}
 use Rattle.book_parts.specs.Limits.{is_name_byte, IsName}
-use Rattle.life_rle.specs.ByteLaws.{both, first, second}
 
 abbrev pub is_visible : ℕ → Bool
 is_visible b = nat_lt 32 b
@@ -17,10 +17,6 @@ name_byte_visible b h = grind (arith, nat_tests)
 
 pub digit_visible : (b : ℕ) → 48 ≤ b → b ≤ 57 → is_visible b ≡ true
 digit_visible b h k = grind (arith, nat_tests)
-
-pub all_weaker : (p q : ℕ → Bool) → ((b : ℕ) → p b ≡ true → q b ≡ true) → (bs : List ℕ) → list_all p bs ≡ true → list_all q bs ≡ true
-all_weaker p q f [] h = refl
-all_weaker p q f (b ∷ bs) h = both (q b) (list_all q bs) (f b (first (p b) (list_all p bs) h)) (all_weaker p q f bs (second (p b) (list_all p bs) h))
 
 -- texts that begin with other bytes are others
 pub other_head : (a b : ℕ) (xs ys : List ℕ) → (a == b) ≡ false → a ∷ xs ≡ b ∷ ys → ⊥
@@ -36,4 +32,4 @@ name_some [] h = let e = h.first in cc
 name_some (b ∷ bs) h = omega arith
 
 pub name_word : (text : List ℕ) → IsName text → IsWord text
-name_word text h = record { some = name_some text h; bytes = all_weaker is_name_byte is_visible name_byte_visible text h.bytes }
+name_word text h = record { some = name_some text h; bytes = weaker is_name_byte is_visible name_byte_visible text h.bytes }

@@ -7,7 +7,7 @@ use Rattle.std.proofs.lemmas.Bool.{and_parts, not-true, not-false, cases_Bool, o
 use Rattle.rle_items.specs.Numbers.{IsDigits, value}
 use Rattle.rle_items.specs.Faults.{IsAtCount}
 use Rattle.rle_items.specs.SpellingLaws.{one_count, digit_range}
-use Rattle.life_rle.specs.Blanks.{is_blank_byte, IsBlank, IsPassedOver}
+use Rattle.text_lines.specs.Blanks.{is_blank_byte, IsBlank, IsPassedOver}
 use Rattle.life_rle.specs.Header.{IsPast, IsPastNumber, IsPastValue, BeginsWithSize, GivesRule, IsRuleName, NamesLife, HasHeaderForm, IsHeader}
 use Rattle.life_rle.specs.HeaderRead.{IsPastBlanks, BeginsInked, IsWordOf}
 use Rattle.life_rle.proofs.Firsts.{cut_at, none_passes}

@@ -8,14 +8,14 @@ use Rattle.std.proofs.lemmas.Int.{ints}
 use Rattle.std.proofs.lemmas.List.{append_assoc}
 use Rattle.std.proofs.lemmas.List.Splits.{slice_split_none}
 use Rattle.std.proofs.lemmas.List.Sums.{AllPass-from_list_all}
-use Rattle.std.proofs.lemmas.Bool.{ne_eqb}
+use Rattle.std.proofs.lemmas.Bool.{ne_eqb, and_from, not-true}
 use Rattle.life_cells.specs.declared.cell.Cell.{Cell}
 use Rattle.rle_items.specs.Numbers.{IsWhole}
-use Rattle.life_rle.specs.Blanks.{is_blank_byte, IsBlank}
+use Rattle.text_lines.specs.Blanks.{is_blank_byte, IsBlank, words}
 use Rattle.life_rle.specs.Header.{IsPastValue, GivesRule, NamesLife, IsHeader}
-use Rattle.life_rle.specs.Text.{words, IsPlaceIn}
+use Rattle.life_rle.specs.Text.{IsPlaceIn}
 use Rattle.life_rle.specs.Written.{place_line, header_line}
-use Rattle.life_rle.specs.ByteLaws.{both, not_false, all_append, decimal_natural, decimal_digits, decimal_value, decimal_passes, small_fits, is_inner, inner_digit, is_word_byte, word_digit}
+use Rattle.life_rle.specs.ByteLaws.{all_append, decimal_natural, decimal_digits, decimal_value, decimal_passes, small_fits, is_inner, inner_digit, is_word_byte, word_digit}
 
 -- ---- whole numbers
 
@@ -34,7 +34,7 @@ signed_whole (negsuc n) h =
 
 signed_passes : (p : ℕ → Bool) → ((b : ℕ) → 48 ≤ b → b ≤ 57 → p b ≡ true) → p 45 ≡ true → (z : ℤ) → IsNear z → list_all p (signed_decimal z) ≡ true
 signed_passes p f minus (pos n) h = decimal_passes p f n (omega (arith, ints, h.high))
-signed_passes p f minus (negsuc n) h = both _ _ minus (decimal_passes p f (suc n) (omega (arith, ints, h.low)))
+signed_passes p f minus (negsuc n) h = and_from _ _ minus (decimal_passes p f (suc n) (omega (arith, ints, h.low)))
 
 -- ---- the line of the place
 
@@ -46,7 +46,7 @@ place_text place = codes "#CXRLE " ++ place_word place
 
 place_word_passes : (p : ℕ → Bool) → ((b : ℕ) → 48 ≤ b → b ≤ 57 → p b ≡ true) → p 45 ≡ true → p 44 ≡ true → list_all p (codes "Pos=") ≡ true → (place : Cell) → IsNear place.x → IsNear place.y → list_all p (place_word place) ≡ true
 place_word_passes p f minus comma front place x y =
-    all_append p (codes "Pos=" ++ signed_decimal place.x) (44 ∷ signed_decimal place.y) (all_append p (codes "Pos=") (signed_decimal place.x) front (signed_passes p f minus place.x x)) (both _ _ comma (signed_passes p f minus place.y y))
+    all_append p (codes "Pos=" ++ signed_decimal place.x) (44 ∷ signed_decimal place.y) (all_append p (codes "Pos=") (signed_decimal place.x) front (signed_passes p f minus place.x x)) (and_from _ _ comma (signed_passes p f minus place.y y))
 
 pub place_line_is : (place : Cell) → place_line place ≡ place_text place ++ (10 ∷ [])
 place_line_is place = refl
@@ -55,7 +55,7 @@ pub place_text_inner : (place : Cell) → IsNear place.x → IsNear place.y → 
 place_text_inner place x y = place_word_passes is_inner inner_digit refl refl refl place x y
 
 no_blank : (word : List ℕ) → list_all is_word_byte word ≡ true → All (λ b. is_blank_byte b ≡ false) word
-no_blank word h = λ k d l. not_false _ (AllPass-from_list_all (λ b. not (is_blank_byte b)) word h k d l)
+no_blank word h = λ k d l. not-true _ (AllPass-from_list_all (λ b. not (is_blank_byte b)) word h k d l)
 
 both_kept : (a w : List ℕ) → 0 < length a → 0 < length w → filter (λ (v : List ℕ). not (length v == 0)) (a ∷ w ∷ []) ≡ a ∷ w ∷ []
 both_kept a w h k = rw (ne_eqb (length a) 0 (λ e. omega arith), ne_eqb (length w) 0 (λ e. omega arith)) refl

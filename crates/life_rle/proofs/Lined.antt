@@ -1,73 +1,12 @@
 -- The first lines of a text.
-use Rattle.std.proofs.Common.{◌≡◌, ℕ, ◌+◌, ◌<◌, ◌≤◌, ◌⊎◌, true, false, List, [], ◌∷◌, ◌++◌, length, get_or, refl, sym, ap, ◌∙◌, subst, inl, inr, arith, eqb}
-use Rattle.std.specs.List.{AllByRecursion, All, slice_split, position_or_len}
-use Rattle.std.specs.Str.Lines.{lines, lines_of_parts, strip_carriage_return}
-use Rattle.std.proofs.lemmas.List.{append_assoc, append-nil, drop_all, length-take, length-append, get_or-take}
-use Rattle.std.proofs.lemmas.List.Splits.{slice_split_first, slice_split_none}
-use Rattle.std.proofs.lemmas.List.Elements.{All-from_get_or}
-use Rattle.std.proofs.lemmas.List.Sums.{split_at_first, passes_at_first, fails_before_first}
-use Rattle.std.proofs.lemmas.Bool.{cases_lt, ne_eqb, eqb-true, eq-eqb}
-use Rattle.life_rle.specs.Lines.{is_line_feed, front, first_line, behind, BeginsWithLines, EndsWith}
-use Rattle.life_rle.proofs.Firsts.{all_at}
-use Rattle.life_rle.specs.LineLaws.{split_some}
-
--- ---- one line
-
--- the text has a line feed, and this stands around the first; or it has none
-pub record HasFeed (text : List ℕ) : Type 0 where
-  pub within : position_or_len is_line_feed text < length text
-  pub whole : text ≡ front text ++ (10 ∷ behind text)
-  pub line_is : first_line text ≡ strip_carriage_return (front text)
-
-pub record HasNoFeed (text : List ℕ) : Type 0 where
-  pub past : length text ≤ position_or_len is_line_feed text
-  pub line_is : first_line text ≡ text
-  pub behind_is : behind text ≡ []
-
-pub has_feed : (text : List ℕ) → position_or_len is_line_feed text < length text → HasFeed text
-has_feed text within =
-    let size = length-take (position_or_len is_line_feed text) text in
-    let other : eqb (length (front text)) (length text) ≡ false = ne_eqb _ _ (λ e. omega arith) in
-    let byte : get_or text (position_or_len is_line_feed text) 0 ≡ 10 = eqb-true _ 10 (passes_at_first is_line_feed text 0 within) in
-    record {
-      within = within;
-      whole = split_at_first is_line_feed text 0 within ∙ ap (λ (b : ℕ). front text ++ (b ∷ behind text)) byte;
-      line_is = rw other refl;
-    }
-
-has_no_feed : (text : List ℕ) → length text ≤ position_or_len is_line_feed text → HasNoFeed text
-has_no_feed text past =
-    let size = length-take (position_or_len is_line_feed text) text in
-    let same : eqb (length (front text)) (length text) ≡ true = eq-eqb _ _ (omega arith) in
-    record { past = past; line_is = rw same refl; behind_is = drop_all (position_or_len is_line_feed text + 1) text (omega arith) }
-
-pub feed_or_not : (text : List ℕ) → HasFeed text ⊎ HasNoFeed text
-feed_or_not text = elim (cases_lt (position_or_len is_line_feed text) (length text)) [ inl h ↦ inl (has_feed text h) | inr h ↦ inr (has_no_feed text h) ]
-
--- no line feed stands before the first, nor in a text without one
-pub front_inner : (text : List ℕ) → AllByRecursion (λ b. is_line_feed b ≡ false) (front text)
-front_inner text = all_at (λ b. is_line_feed b ≡ false) (front text) (λ k l. let below : k < position_or_len is_line_feed text = omega (arith, length-take (position_or_len is_line_feed text) text) in rw get_or-take (fails_before_first is_line_feed text k 0 below))
-
-pub whole_inner : (text : List ℕ) → length text ≤ position_or_len is_line_feed text → AllByRecursion (λ b. is_line_feed b ≡ false) text
-whole_inner text past = all_at (λ b. is_line_feed b ≡ false) text (λ k l. fails_before_first is_line_feed text k 0 (omega arith))
-
-lines_more : (line : List ℕ) (parts : List (List ℕ)) (part : List ℕ) (more : List (List ℕ)) → parts ≡ part ∷ more → lines_of_parts (line ∷ parts) ≡ strip_carriage_return line ∷ lines_of_parts parts
-lines_more line parts part more e = subst (λ (ps : List (List ℕ)). lines_of_parts (line ∷ ps) ≡ strip_carriage_return line ∷ lines_of_parts ps) (sym e) refl
-
-lines_one : (text : List ℕ) → 0 < length text → lines_of_parts (text ∷ []) ≡ text ∷ []
-lines_one text some = rw (ne_eqb (length text) 0 (λ e. omega arith)) refl
-
-pub lines_step : (text : List ℕ) → 0 < length text → lines text ≡ first_line text ∷ lines (behind text)
-lines_step text some =
-    elim (feed_or_not text) [
-      | inl h ↦
-          let rest = split_some (behind text) in
-          ap lines_of_parts (slice_split_first is_line_feed text 0 h.within) ∙ lines_more (front text) (slice_split is_line_feed (behind text)) rest.part rest.more rest.parts_are
-          ∙ ap (λ (line : List ℕ). line ∷ lines (behind text)) (sym h.line_is)
-      | inr h ↦
-          let none : All (λ b. is_line_feed b ≡ false) text = All-from_get_or (λ b. is_line_feed b ≡ false) text 0 (λ k l. let past = h.past in fails_before_first is_line_feed text k 0 (omega arith)) in
-          ap lines_of_parts (slice_split_none is_line_feed text none) ∙ lines_one text some ∙ (λ k. sym h.line_is k ∷ lines (sym h.behind_is k))
-    ]
+use Rattle.std.proofs.Common.{◌≡◌, ℕ, ◌<◌, ◌≤◌, ◌⊎◌, true, false, List, [], ◌∷◌, ◌++◌, length, refl, sym, ap, ◌∙◌, subst, inl, inr, arith, eqb}
+use Rattle.std.specs.List.{AllByRecursion}
+use Rattle.std.specs.Str.Lines.{lines}
+use Rattle.std.proofs.lemmas.List.{append_assoc, append-nil, length-append}
+use Rattle.std.proofs.lemmas.Bool.{eqb-true}
+use Rattle.text_lines.specs.Lines.{front, first_line, behind}
+use Rattle.life_rle.specs.Rests.{BeginsWithLines, EndsWith}
+use Rattle.text_lines.specs.LineLaws.{feed_or_not, lines_step}
 
 -- ---- what stands at the end
 
@@ -90,13 +29,6 @@ behind_ends text =
 -- what stands behind a line is nothing, or begins a line
 pub behind_begins : (text : List ℕ) → (behind text ≡ []) ⊎ EndsWith text (10 ∷ behind text)
 behind_begins text = elim (feed_or_not text) [ inl h ↦ inr (record { before = front text; split = h.whole }) | inr h ↦ inl h.behind_is ]
-
-pub behind_short : (text : List ℕ) → 0 < length text → length (behind text) < length text
-behind_short text some =
-    elim (feed_or_not text) [
-      | inl h ↦ omega (arith, length-append (front text) (10 ∷ behind text), ap length h.whole)
-      | inr h ↦ omega (arith, ap length h.behind_is)
-    ]
 
 -- ---- lines before a rest
 

@@ -4,11 +4,10 @@ use Rattle.std.proofs.lemmas.List.{append_assoc}
 use Rattle.life_cells.specs.Cells.{alive, Cells}
 use Rattle.life_cells.specs.Boxes.{IsInRange}
 use Rattle.life_cells.specs.declared.cell.Cell.{Cell}
-use Rattle.life_rle.specs.Lines.{EndsWith}
-use Rattle.life_rle.specs.Blanks.{blanked}
+use Rattle.life_rle.specs.Rests.{EndsWith}
 use Rattle.life_rle.specs.Text.{HasBody, Says, Means}
 use Rattle.life_rle.specs.TextFaults.{IsFineText}
-use Rattle.life_rle.specs.Comments.{seen, seen_from}
+use Rattle.life_rle.specs.Comments.{seen, seen_from, blanked}
 use Rattle.life_rle.specs.ItemsRead.{IsRead}
 use Rattle.life_rle.proofs.Lined.{lines_end, ends_on, behind_ends, behind_begins}
 use Rattle.life_rle.proofs.Seen.{ends_line-append, seen_at, blanked_is}

@@ -13,9 +13,10 @@ use Rattle.rle_items.specs.Items.{AreCells}
 use Rattle.rle_items.specs.Spelling.{IsWhite}
 use Rattle.rle_items.specs.SpellingLaws.{digit_range, white_kind, one_list}
 use Rattle.rle_items.specs.DrawnCells.{same_cells}
-use Rattle.life_rle.specs.Lines.{behind}
-use Rattle.life_rle.specs.Blanks.{IsPassedOver, blanked}
-use Rattle.life_rle.specs.Text.{IsPlaceWord, IsPlaceIn, IsPlace, gives_place, words, IsAtHeader, HasBody, Says, Means}
+use Rattle.text_lines.specs.Lines.{behind}
+use Rattle.text_lines.specs.Blanks.{IsPassedOver, words}
+use Rattle.life_rle.specs.Comments.{blanked}
+use Rattle.life_rle.specs.Text.{IsPlaceWord, IsPlaceIn, IsPlace, gives_place, IsAtHeader, HasBody, Says, Means}
 use Rattle.life_rle.proofs.Lined.{one_rest, IsSameRest}
 
 -- ---- one place

@@ -10,13 +10,15 @@ use Rattle.rle_items.specs.Reach.{IsInReach, AreFineFrom}
 use Rattle.rle_items.specs.SpellingLaws.{white_kind, GoesOnWith, one_goes_on, goes_on_by_item, IsSamePlace, same_place, end_stops}
 use Rattle.life_rle.specs.declared.error.RleError.{RleError}
 use Rattle.life_rle.specs.declared.error.RleError.TheVariants.{NoHeader, BadHeader, BadRule, BadItem, BadCount, NoEnd, TooFar, TooMany, Memory}
-use Rattle.life_rle.specs.Lines.{first_line, behind}
-use Rattle.life_rle.specs.Blanks.{IsPassedOver, blanked}
+use Rattle.text_lines.specs.Lines.{first_line, behind}
+use Rattle.text_lines.specs.Blanks.{IsPassedOver}
+use Rattle.life_rle.specs.Comments.{blanked}
 use Rattle.life_rle.specs.Header.{HasHeaderForm, IsHeader}
 use Rattle.life_rle.specs.Text.{gives_place, IsAtHeader, HasBody, Says}
 use Rattle.life_rle.specs.TextFaults.{HasBadHeader, HasBadRule, HasFarPlace, HasPlaceLine, IsFineText, IsItemFault, ItemsStopWith, BodyStopsWith, TextStopsWith, IsForLimit}
 use Rattle.life_rle.proofs.Headers.{form_of_header}
-use Rattle.life_rle.proofs.Lined.{one_rest, lines_split, lines_step}
+use Rattle.life_rle.proofs.Lined.{one_rest, lines_split}
+use Rattle.text_lines.specs.LineLaws.{lines_step}
 use Rattle.life_rle.proofs.OneMeaning.{one_head, one_body}
 use Rattle.life_rle.proofs.OneFault.{one_fault, no_fault_before_next, limit_before_next, no_fault_at_end, item_of_next}
 use Rattle.life_rle.proofs.TextSoFar.{reach_of_none}

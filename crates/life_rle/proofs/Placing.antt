@@ -10,8 +10,8 @@ use Rattle.std.proofs.lemmas.Bool.{eqb-true, eq-eqb, ne_eqb, cases_lt}
 use Rattle.life_cells.specs.Cells.{cell}
 use Rattle.life_cells.specs.declared.cell.Cell.{Cell}
 use Rattle.rle_items.specs.Numbers.{value, IsDigits, IsWhole}
-use Rattle.life_rle.specs.Blanks.{is_blank_byte}
-use Rattle.life_rle.specs.Text.{words, IsPlaceWord, IsPlaceIn}
+use Rattle.text_lines.specs.Blanks.{is_blank_byte, words}
+use Rattle.life_rle.specs.Text.{IsPlaceWord, IsPlaceIn}
 use Rattle.rle_items.specs.Reach.{IsNearZero}
 use Rattle.life_rle.specs.Told.{is_comma, IsCommaSplit, TellsSize, TellsNumber, TellsPlace, IsWordSplit, IsOneWord}
 use Rattle.rle_items.specs.Faults.{IsAtCount}

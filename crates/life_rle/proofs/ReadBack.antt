@@ -3,7 +3,7 @@ use Rattle.std.proofs.Common.{◌≡◌, ℕ, ◌+◌, ◌<◌, ◌≤◌, ◌^�
 use Rattle.std.specs.List.{list_all}
 use Rattle.std.proofs.lemmas.Int.{ints}
 use Rattle.std.proofs.lemmas.List.{append_assoc}
-use Rattle.std.proofs.lemmas.Bool.{eq-eqb}
+use Rattle.std.proofs.lemmas.Bool.{eq-eqb, and_parts}
 use Rattle.life_plane.specs.Plane.{Plane}
 use Rattle.life_cells.specs.Cells.{Cells, alive, in_order}
 use Rattle.life_cells.specs.Boxes.{IsInRange}
@@ -14,7 +14,7 @@ use Rattle.life_rle.specs.Text.{Says, Means}
 use Rattle.life_rle.specs.TextFaults.{IsFineText}
 use Rattle.life_rle.specs.Written.{IsRleText, place_line, note_line, header_line, folded, pieces, HasNoLineBreak}
 use Rattle.life_rle.specs.Drawn.{AreSmall, IsSmallFrame}
-use Rattle.life_rle.specs.ByteLaws.{first, second, all_append, is_item_byte}
+use Rattle.life_rle.specs.ByteLaws.{all_append, is_item_byte}
 use Rattle.life_rle.proofs.Heading.{IsNear}
 use Rattle.life_rle.proofs.Seen.{HasNoHash, blanked_same}
 use Rattle.life_rle.specs.SpellingLaws.{folded_spelled, folded_passes}
@@ -25,7 +25,7 @@ use Rattle.life_rle.proofs.WrittenLines.{written_body}
 
 no_hash : (bs : List ℕ) → list_all is_item_byte bs ≡ true → HasNoHash bs
 no_hash [] h = tt
-no_hash (b ∷ bs) h = ((λ e. let hash : eqb b 35 ≡ true = eq-eqb b 35 e in let other = first (not (b == 35)) (list_all is_item_byte bs) h in cc), no_hash bs (second (not (b == 35)) (list_all is_item_byte bs) h))
+no_hash (b ∷ bs) h = ((λ e. let hash : eqb b 35 ≡ true = eq-eqb b 35 e in let other = (and_parts (not (b == 35)) (list_all is_item_byte bs) h).0 in cc), no_hash bs ((and_parts (not (b == 35)) (list_all is_item_byte bs) h).1))
 
 module _ (place : Cell) (note : Option (List ℕ)) (width height : ℕ) (items : List Item) (x : IsNear place.x) (y : IsNear place.y) (n : HasNoLineBreak note) (w : width < 10 ^ 18) (h : height < 10 ^ 18) (small : AreSmall items) where
   text_says : Says (((place_line place ++ note_line note) ++ header_line width height) ++ (folded 0 (pieces items) ++ (10 ∷ []))) place items

@@ -10,10 +10,11 @@ use Rattle.std.proofs.lemmas.Bool.{ne_eqb, eqb-false, cases_Bool, and_parts}
 use Rattle.std.proofs.lemmas.Bool.Decides.{eqb_tells}
 use Rattle.rle_items.specs.Spelling.{IsWhite, is_white}
 use Rattle.rle_items.specs.SpellingLaws.{digit_range, white_no_digit}
-use Rattle.life_rle.specs.Lines.{is_line_feed, front, behind, EndsWith}
-use Rattle.life_rle.specs.Blanks.{is_comment, blank_comment, blanked}
-use Rattle.life_rle.specs.Comments.{ends_line, begins_line, seen, seen_from, BeginsComment}
-use Rattle.life_rle.proofs.Lined.{feed_or_not, front_inner, whole_inner}
+use Rattle.text_lines.specs.Lines.{is_line_feed, front, behind}
+use Rattle.life_rle.specs.Rests.{EndsWith}
+use Rattle.text_lines.specs.Blanks.{is_comment}
+use Rattle.life_rle.specs.Comments.{ends_line, begins_line, seen, seen_from, BeginsComment, blank_comment, blanked}
+use Rattle.text_lines.specs.LineLaws.{feed_or_not, front_inner, whole_inner}
 
 -- ---- one byte
 

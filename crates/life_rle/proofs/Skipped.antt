@@ -5,11 +5,13 @@ use Rattle.std.proofs.lemmas.List.{append_assoc, append-nil, length-append, drop
 use Rattle.std.proofs.lemmas.Bool.{not-true, not-false}
 use Rattle.rle_items.specs.Spelling.{IsWhite, is_white}
 use Rattle.rle_items.specs.SpellingLaws.{join_white}
-use Rattle.life_rle.specs.Lines.{behind, EndsWith}
+use Rattle.text_lines.specs.Lines.{behind}
+use Rattle.life_rle.specs.Rests.{EndsWith}
 use Rattle.life_rle.specs.TextFaults.{IsPastWhite}
 use Rattle.life_rle.specs.Comments.{ends_line, seen_from, BeginsComment}
 use Rattle.life_rle.proofs.Firsts.{cut_at, none_passes}
-use Rattle.life_rle.proofs.Lined.{ends_on, behind_ends, behind_short}
+use Rattle.life_rle.proofs.Lined.{ends_on, behind_ends}
+use Rattle.text_lines.specs.LineLaws.{behind_short}
 use Rattle.life_rle.proofs.Seen.{white_no_hash, seen_behind, ends_line-append, IsBlankTo, comment_seen, seen_head}
 
 -- ---- white space

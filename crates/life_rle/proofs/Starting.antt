@@ -9,15 +9,17 @@ use Rattle.life_cells.specs.declared.cell.Cell.{Cell}
 use Rattle.life_rle.specs.declared.start.PlaceLine.{PlaceLine}
 use Rattle.life_rle.specs.declared.error.RleError.{RleError}
 use Rattle.life_rle.specs.declared.error.RleError.TheVariants.{NoHeader, BadHeader, BadRule, BadItem, BadCount, NoEnd, TooFar, TooMany, Memory}
-use Rattle.life_rle.specs.Lines.{first_line, behind, BeginsWithLines}
+use Rattle.text_lines.specs.Lines.{first_line, behind}
+use Rattle.life_rle.specs.Rests.{BeginsWithLines}
 use Rattle.life_rle.specs.Header.{IsHeader}
-use Rattle.life_rle.specs.Blanks.{IsPassedOver}
-use Rattle.life_rle.specs.Text.{gives_place, IsPlaceIn, IsPlace, words, IsAtHeader, HasBody}
+use Rattle.text_lines.specs.Blanks.{IsPassedOver, words}
+use Rattle.life_rle.specs.Text.{gives_place, IsPlaceIn, IsPlace, IsAtHeader, HasBody}
 use Rattle.rle_items.specs.Faults.{BeginsAt}
 use Rattle.life_rle.specs.TextFaults.{HasPlaceLine, HasFarPlace, StartStopsWith}
 use Rattle.life_rle.specs.Opened.{HasFound, IsOpened, Gives, GivesFar, PlaceIsRefused}
 use Rattle.life_rle.specs.HeaderRead.{HeaderIsRefused}
-use Rattle.life_rle.proofs.Lined.{lines_push, lines_split, each_push, behind_short}
+use Rattle.life_rle.proofs.Lined.{lines_push, lines_split, each_push}
+use Rattle.text_lines.specs.LineLaws.{behind_short}
 
 -- ---- what was found
 

@@ -7,7 +7,7 @@ use Rattle.rle_items.specs.Numbers.{value}
 use Rattle.rle_items.specs.Spelling.{IsCount, tag_of}
 use Rattle.rle_items.specs.Faults.{BeginsAt, IsAtCount}
 use Rattle.rle_items.specs.SpellingLaws.{join_white, dark_byte}
-use Rattle.life_rle.specs.Lines.{EndsWith}
+use Rattle.life_rle.specs.Rests.{EndsWith}
 use Rattle.life_rle.specs.TextFaults.{IsPastWhite, IsAtTag, HasBadDigits, HasStrayByte, EndsBeforeTag}
 use Rattle.life_rle.specs.Comments.{seen_from}
 use Rattle.life_rle.specs.ItemsRead.{IsItemAt, IsEndBehind}

@@ -17,13 +17,12 @@ use Rattle.rle_items.specs.Items.{rows_of, live, is_row_end, AreCells}
 use Rattle.rle_items.specs.ItemLaws.{split_push, rows_push, columns_push_end, columns_push_other, spells_push}
 use Rattle.rle_items.specs.Spelling.{SpellsItem, IsWhite}
 use Rattle.rle_items.specs.SpellingLaws.{count_some}
-use Rattle.life_rle.specs.Lines.{EndsWith}
+use Rattle.life_rle.specs.Rests.{EndsWith}
 use Rattle.rle_items.specs.Reach.{IsNearZero, IsInReach, cursor_behind, AreFineFrom}
 use Rattle.rle_items.specs.Faults.{BeginsAt}
 use Rattle.life_rle.specs.TextFaults.{IsBodyReadTo, IsItemFault, ItemsStopWith}
-use Rattle.life_rle.specs.Blanks.{blanked}
 use Rattle.rle_items.specs.Cursor.{IsBehind, HasRoom, HasMoved, item_cells}
-use Rattle.life_rle.specs.Comments.{seen_from}
+use Rattle.life_rle.specs.Comments.{seen_from, blanked}
 use Rattle.life_rle.specs.ItemsRead.{IsItemAt, IsEndBehind, IsWithinFrom, PassesFrom, IsRead}
 use Rattle.rle_items.specs.DrawnCells.{IsDrawn, drawn_none, drawn_push}
 use Rattle.life_rle.proofs.Seen.{seen_from_length}

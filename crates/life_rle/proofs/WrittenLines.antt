@@ -1,54 +1,32 @@
 -- The lines of a text that is written.
-use Rattle.std.proofs.Common.{◌≡◌, ◌≢◌, ℕ, suc, ◌+◌, ◌-◌, ◌<◌, ◌^◌, Bool, true, false, not, ◌==◌, List, [], ◌∷◌, ◌++◌, length, take, drop, slice_index, if◌then◌else◌, refl, sym, ap, ◌∙◌, subst, inl, arith, Option, Some, None, codes, cond}
-use Rattle.std.specs.List.{list_all, AllByRecursion, position_or_len}
+use Rattle.std.proofs.Common.{◌≡◌, ◌≢◌, ℕ, suc, ◌-◌, ◌<◌, ◌^◌, true, false, not, ◌==◌, List, [], ◌∷◌, ◌++◌, length, take, slice_index, if◌then◌else◌, refl, sym, ap, ◌∙◌, subst, inl, arith, Option, Some, None, codes}
+use Rattle.std.specs.List.{list_all, AllByRecursion}
 use Rattle.std.specs.Str.Lines.{strip_carriage_return}
 use Rattle.std.proofs.lemmas.List.{append_assoc, append-nil, length-append}
-use Rattle.std.proofs.lemmas.Bool.{ne_eqb}
-use Rattle.std.proofs.Math.Seq.{take-append_seam, drop-append-add}
+use Rattle.std.proofs.lemmas.Bool.{ne_eqb, or_parts, not-true, not_from_false, and_from}
 use Rattle.life_cells.specs.declared.cell.Cell.{Cell}
 use Rattle.life_rle.specs.Written.{HasNoLineBreak, place_line, note_line, header_line}
-use Rattle.life_rle.specs.Lines.{is_line_feed, front, first_line, behind, BeginsWithLines}
-use Rattle.life_rle.specs.Blanks.{is_comment, IsPassedOver}
+use Rattle.text_lines.specs.Lines.{first_line}
+use Rattle.life_rle.specs.Rests.{BeginsWithLines}
+use Rattle.text_lines.specs.Blanks.{is_comment, IsPassedOver}
 use Rattle.life_rle.specs.Header.{IsHeader}
 use Rattle.life_rle.specs.Text.{IsPlace, HasBody}
-use Rattle.life_rle.specs.ByteLaws.{both, first, second, all_append, is_inner}
-use Rattle.life_rle.proofs.Lined.{has_feed}
-use Rattle.life_rle.specs.LineLaws.{strip_same, neither_first, neither_second}
+use Rattle.life_rle.specs.ByteLaws.{all_append, weaker, is_inner}
+use Rattle.text_lines.specs.LineLaws.{strip_same, first_is, behind_is}
 use Rattle.life_rle.proofs.Headers.{header_not_passed}
 use Rattle.life_rle.proofs.Heading.{IsNear, place_text, place_line_is, place_is_read, place_text_inner, header_text, header_line_is, header_text_inner, header_is_read}
 
 -- ---- one line
 
-pub weaker : (p q : ℕ → Bool) → ((b : ℕ) → p b ≡ true → q b ≡ true) → (bs : List ℕ) → list_all p bs ≡ true → list_all q bs ≡ true
-weaker p q f [] h = refl
-weaker p q f (b ∷ bs) h = both _ _ (f b (first _ _ h)) (weaker p q f bs (second _ _ h))
-
-feed_at : (line rest : List ℕ) → list_all (λ b. not (b == 10)) line ≡ true → position_or_len is_line_feed (line ++ (10 ∷ rest)) ≡ length line
-feed_at [] rest h = refl
-feed_at (b ∷ line) rest h =
-    ap (λ v. cond v (1 + position_or_len is_line_feed (line ++ (10 ∷ rest))) 0) (first (not (b == 10)) (list_all (λ c. not (c == 10)) line) h)
-    ∙ (let more = feed_at line rest (second (not (b == 10)) (list_all (λ c. not (c == 10)) line) h) in omega arith)
-
 module _ (line rest : List ℕ) (inner : list_all (λ b. not (b == 10)) line ≡ true) where
-  front_is : front (line ++ (10 ∷ rest)) ≡ line
-  front_is = ap (λ (n : ℕ). take n (line ++ (10 ∷ rest))) (feed_at line rest inner) ∙ take-append_seam line (10 ∷ rest)
-
-  first_is : first_line (line ++ (10 ∷ rest)) ≡ strip_carriage_return line
-  first_is =
-      let within : position_or_len is_line_feed (line ++ (10 ∷ rest)) < length (line ++ (10 ∷ rest)) = omega (arith, feed_at line rest inner, length-append line (10 ∷ rest)) in
-      (has_feed (line ++ (10 ∷ rest)) within).line_is ∙ ap strip_carriage_return front_is
-
-  behind_is : behind (line ++ (10 ∷ rest)) ≡ rest
-  behind_is = ap (λ (n : ℕ). drop (n + 1) (line ++ (10 ∷ rest))) (feed_at line rest inner) ∙ drop-append-add line (10 ∷ rest) 1
-
   line_more : (head : List (List ℕ)) (last : List ℕ) → BeginsWithLines rest head last → BeginsWithLines (line ++ (10 ∷ rest)) (strip_carriage_return line ∷ head) last
-  line_more head last h = (omega (arith, length-append line (10 ∷ rest)), (first_is, subst (λ (bs : List ℕ). BeginsWithLines bs head last) (sym behind_is) h))
+  line_more head last h = (omega (arith, length-append line (10 ∷ rest)), (first_is line rest inner, subst (λ (bs : List ℕ). BeginsWithLines bs head last) (sym (behind_is line rest inner)) h))
 
 inner_no_feed : (line : List ℕ) → list_all is_inner line ≡ true → list_all (λ b. not (b == 10)) line ≡ true
-inner_no_feed line h = weaker is_inner (λ b. not (b == 10)) (λ b k. neither_first (b == 10) (b == 13) k) line h
+inner_no_feed line h = weaker is_inner (λ b. not (b == 10)) (λ b k. not_from_false _ (or_parts (b == 10) (b == 13) (not-true _ k)).0) line h
 
 inner_same : (line : List ℕ) → list_all is_inner line ≡ true → strip_carriage_return line ≡ line
-inner_same line h = strip_same line (weaker is_inner (λ b. not (b == 13)) (λ b k. neither_second (b == 10) (b == 13) k) line h)
+inner_same line h = strip_same line (weaker is_inner (λ b. not (b == 13)) (λ b k. not_from_false _ (or_parts (b == 10) (b == 13) (not-true _ k)).1) line h)
 
 -- a line that keeps its end
 line_kept : (line rest : List ℕ) (head : List (List ℕ)) (last : List ℕ) → list_all is_inner line ≡ true → BeginsWithLines rest head last → BeginsWithLines (line ++ (10 ∷ rest)) (line ∷ head) last
@@ -61,7 +39,7 @@ note_text note = codes "#C " ++ note
 
 pub no_line_feed : (note : List ℕ) → AllByRecursion (λ b. b ≢ 10) note → list_all (λ b. not (b == 10)) note ≡ true
 no_line_feed [] h = refl
-no_line_feed (b ∷ bs) h = both _ _ (ap not (ne_eqb b 10 h.0)) (no_line_feed bs h.1)
+no_line_feed (b ∷ bs) h = and_from _ _ (ap not (ne_eqb b 10 h.0)) (no_line_feed bs h.1)
 
 -- the lines before the header; a carriage return at a note's end is none of it
 abbrev pub head_lines : Cell → Option (List ℕ) → List (List ℕ)

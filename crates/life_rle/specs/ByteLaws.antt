@@ -1,5 +1,5 @@
 -- The laws of tests on bytes, and of the digits that a number is written in.
-use Rattle.std.specs.Prelude.{◌≡◌, ◌≢◌, ℕ, ◌<◌, ◌≤◌, ◌^◌, Bool, true, false, not, ◌||◌, ◌&&◌, ◌==◌, List, [], ◌∷◌, ◌++◌}
+use Rattle.std.specs.Prelude.{◌≡◌, ◌≢◌, ℕ, ◌<◌, ◌≤◌, ◌^◌, Bool, true, not, ◌||◌, ◌==◌, List, [], ◌∷◌, ◌++◌}
 use Rattle.std.specs.List.{list_all}
 use Rattle.std.specs.Str.{all_ascii_digits}
 use Rattle.std.specs.Str.Parse.{digits_value}
@@ -8,29 +8,17 @@ use Rattle.std.proofs.Common.{refl, ap, ◌∙◌, arith}
 use Rattle.std.proofs.lemmas.Fmt.{decimal_nonempty, digits_decimal, digits_value-decimal, length-decimal-le}
 use Rattle.std.proofs.lemmas.Str.Parse.{IsNumeralModel, numerals_by_value, tells_all_ascii_digits}
 use Rattle.std.proofs.lemmas.List.Folds.{list_all-append}
-use Rattle.std.proofs.lemmas.Bool.{ne_eqb, leb-true}
+use Rattle.std.proofs.lemmas.List.Sums.{AllPass-from_list_all, list_all-from_AllPass}
+use Rattle.std.proofs.lemmas.Bool.{ne_eqb, leb-true, and_from, and_parts}
 use Rattle.rle_items.specs.Numbers.{IsDigits, IsNatural, value}
 
--- ---- two tests at once
+-- ---- tests of all bytes
 
-pub both : (a b : Bool) → a ≡ true → b ≡ true → (a && b) ≡ true
-both true b h k = k
-both false b h k = h
-
-pub first : (a b : Bool) → (a && b) ≡ true → a ≡ true
-first true b h = refl
-first false b h = h
-
-pub second : (a b : Bool) → (a && b) ≡ true → b ≡ true
-second true b h = h
-second false b h = cc
-
-pub not_false : (b : Bool) → not b ≡ true → b ≡ false
-not_false true h = cc
-not_false false h = refl
+pub weaker : (p q : ℕ → Bool) → ((b : ℕ) → p b ≡ true → q b ≡ true) → (bs : List ℕ) → list_all p bs ≡ true → list_all q bs ≡ true
+weaker p q f bs h = list_all-from_AllPass q bs (λ i d l. f _ (AllPass-from_list_all p bs h i d l))
 
 pub all_append : (p : ℕ → Bool) (a b : List ℕ) → list_all p a ≡ true → list_all p b ≡ true → list_all p (a ++ b) ≡ true
-all_append p a b h k = list_all-append p a b ∙ both _ _ h k
+all_append p a b h k = list_all-append p a b ∙ and_from _ _ h k
 
 -- ---- digits
 
@@ -53,7 +41,7 @@ decimal_natural n h = record { digits = decimal_digits n (small_fits n h); short
 -- a test that each byte from 48 to 57 passes, passes digits
 digits_pass : (p : ℕ → Bool) → ((b : ℕ) → 48 ≤ b → b ≤ 57 → p b ≡ true) → (ds : List ℕ) → all_ascii_digits ds ≡ true → list_all p ds ≡ true
 digits_pass p f [] h = refl
-digits_pass p f (d ∷ ds) h = both _ _ (f d (leb-true 48 d (first _ _ (first _ _ h))) (leb-true d 57 (second _ _ (first _ _ h)))) (digits_pass p f ds (second _ _ h))
+digits_pass p f (d ∷ ds) h = and_from _ _ (f d (leb-true 48 d (and_parts _ _ (and_parts _ _ h).0).0) (leb-true d 57 (and_parts _ _ (and_parts _ _ h).0).1)) (digits_pass p f ds (and_parts _ _ h).1)
 
 pub decimal_passes : (p : ℕ → Bool) → ((b : ℕ) → 48 ≤ b → b ≤ 57 → p b ≡ true) → (n : ℕ) → n < 2 ^ 64 → list_all p (decimal n) ≡ true
 decimal_passes p f n h = digits_pass p f (decimal n) (digits_decimal own n h)

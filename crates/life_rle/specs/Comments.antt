@@ -1,5 +1,16 @@
--- Comments of a text made blank, from any place on.
-use Rattle.std.specs.Prelude.{◌≡◌, ℕ, ◌-◌, ◌||◌, ◌&&◌, ◌==◌, Bool, true, false, List, [], ◌∷◌, length, take, if◌then◌else◌}
+-- Comments of a text made blank, of the whole text and from any place on.
+use Rattle.std.specs.Prelude.{◌≡◌, ℕ, ◌-◌, ◌||◌, ◌&&◌, ◌==◌, Bool, true, false, List, [], ◌∷◌, length, map, take, if◌then◌else◌}
+use Rattle.std.specs.List.{slice_split, join_with_byte}
+use Rattle.text_lines.specs.Lines.{is_line_feed}
+use Rattle.text_lines.specs.Blanks.{is_comment}
+
+-- a comment becomes as many spaces, and another line stays as it is
+abbrev pub blank_comment : List ℕ → List ℕ
+blank_comment line = if is_comment line then map (λ b. 32) line else line
+
+-- the text with its comment lines made blank, so that all else stays in its place
+abbrev pub blanked : List ℕ → List ℕ
+blanked text = join_with_byte 10 (map blank_comment (slice_split is_line_feed text))
 
 -- the last of these bytes is a line feed; without bytes it is as told
 abbrev pub ends_line : Bool → List ℕ → Bool

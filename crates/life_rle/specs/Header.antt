@@ -2,7 +2,7 @@
 use Rattle.std.specs.Prelude.{◌≡◌, ℕ, false, ◌⊎◌, List, [], ◌∷◌, ◌++◌, codes, map}
 use Rattle.std.specs.Char.{is_ascii_digit, to_ascii_lowercase}
 use Rattle.rle_items.specs.Numbers.{IsNatural}
-use Rattle.life_rle.specs.Blanks.{IsBlank}
+use Rattle.text_lines.specs.Blanks.{IsBlank}
 
 -- behind blanks, or none, stands this part, and then the rest
 pub record IsPast (part line rest : List ℕ) : Type 0 where

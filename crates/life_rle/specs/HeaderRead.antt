@@ -5,7 +5,7 @@ use Rattle.life_rle.specs.declared.header.Form.{Form}
 use Rattle.life_rle.specs.declared.header.Form.TheVariants.{Life, OtherRule, OtherForm}
 use Rattle.life_rle.specs.declared.error.RleError.{RleError}
 use Rattle.life_rle.specs.declared.error.RleError.TheVariants.{NoHeader, BadHeader, BadRule, BadItem, BadCount, NoEnd, TooFar, TooMany, Memory}
-use Rattle.life_rle.specs.Blanks.{IsBlank, is_blank_byte}
+use Rattle.text_lines.specs.Blanks.{IsBlank, is_blank_byte}
 use Rattle.life_rle.specs.Header.{HasHeaderForm, IsHeader}
 
 -- more stands behind the blanks at the line's front, and begins with none

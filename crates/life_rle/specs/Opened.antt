@@ -7,9 +7,9 @@ use Rattle.rle_items.specs.Reach.{IsInReach}
 use Rattle.life_rle.specs.declared.start.PlaceLine.{PlaceLine}
 use Rattle.life_rle.specs.declared.error.RleError.{RleError}
 use Rattle.life_rle.specs.declared.error.RleError.TheVariants.{NoHeader, BadHeader, BadRule, BadItem, BadCount, NoEnd, TooFar, TooMany, Memory}
-use Rattle.life_rle.specs.Blanks.{IsPassedOver}
-use Rattle.life_rle.specs.Text.{words, gives_place, IsPlaceIn}
-use Rattle.life_rle.specs.Lines.{BeginsWithLines}
+use Rattle.text_lines.specs.Blanks.{IsPassedOver, words}
+use Rattle.life_rle.specs.Text.{gives_place, IsPlaceIn}
+use Rattle.life_rle.specs.Rests.{BeginsWithLines}
 use Rattle.life_rle.specs.TextFaults.{HasPlaceLine}
 
 -- the first of these lines that may give the place, and where it begins in the text

@@ -18,7 +18,8 @@ use Rattle.rle_items.specs.Numbers.{IsNatural}
 use Rattle.rle_items.specs.Spelling.{SpellsItem, Spells, IsNone, IsWhite, IsCount, tag_of}
 use Rattle.life_rle.specs.Written.{folded, pieces}
 use Rattle.life_rle.specs.Drawn.{AreSmall}
-use Rattle.life_rle.specs.ByteLaws.{both, all_append, decimal_natural, decimal_passes, small_fits, is_item_byte, item_digit}
+use Rattle.life_rle.specs.ByteLaws.{all_append, decimal_natural, decimal_passes, small_fits, is_item_byte, item_digit}
+use Rattle.std.proofs.lemmas.Bool.{and_from}
 
 -- ---- one item
 
@@ -109,7 +110,7 @@ count_passes : (n : ℕ) → n < 10 ^ 18 → list_all is_item_byte (count_text n
 count_passes n h = elim (n == 1) as (λ v. list_all is_item_byte (if v then [] else decimal n) ≡ true) [ true ↦ refl | false ↦ decimal_passes is_item_byte item_digit n (small_fits n h) ]
 
 item_passes : (i : Item) → i.count < 10 ^ 18 → list_all is_item_byte (item_text i) ≡ true
-item_passes i h = all_append is_item_byte (count_text i.count) (tag_byte i.tag ∷ []) (count_passes i.count h) (both _ _ (tag_byte_passes i.tag) refl)
+item_passes i h = all_append is_item_byte (count_text i.count) (tag_byte i.tag ∷ []) (count_passes i.count h) (and_from _ _ (tag_byte_passes i.tag) refl)
 
 pub folded_passes : (column : ℕ) (items : List Item) → AreSmall items → list_all is_item_byte (folded column (pieces items)) ≡ true
 folded_passes column [] h = elim (nat_le (column + 1) 70) as (λ v. list_all is_item_byte (if v then (33 ∷ []) ++ [] else 10 ∷ ((33 ∷ []) ++ [])) ≡ true) [ true ↦ refl | false ↦ refl ]

@@ -1,6 +1,6 @@
 -- What a whole text says: comments, one header, items, and `!`.
-use Rattle.std.specs.Prelude.{◌≡◌, ℕ, Bool, ◌==◌, ◌⊎◌, pos, List, [], ◌∷◌, ◌++◌, length, filter, find, not, codes, nat_eq, MatchOption}
-use Rattle.std.specs.List.{AllByRecursion, slice_split, starts_with}
+use Rattle.std.specs.Prelude.{◌≡◌, ℕ, Bool, ◌⊎◌, pos, List, [], ◌∷◌, ◌++◌, find, codes, nat_eq, MatchOption}
+use Rattle.std.specs.List.{AllByRecursion, starts_with}
 use Rattle.life_plane.specs.Plane.{Plane}
 use Rattle.life_cells.specs.Cells.{cell}
 use Rattle.life_cells.specs.declared.cell.Cell.{Cell}
@@ -8,13 +8,11 @@ use Rattle.rle_items.specs.declared.item.Item.{Item}
 use Rattle.rle_items.specs.Numbers.{IsWhole}
 use Rattle.rle_items.specs.Items.{AreCells}
 use Rattle.rle_items.specs.Spelling.{Spells, IsWhite}
-use Rattle.life_rle.specs.Lines.{first_line, behind, BeginsWithLines}
-use Rattle.life_rle.specs.Blanks.{is_blank_byte, IsPassedOver, blanked}
+use Rattle.text_lines.specs.Lines.{first_line, behind}
+use Rattle.life_rle.specs.Rests.{BeginsWithLines}
+use Rattle.life_rle.specs.Comments.{blanked}
+use Rattle.text_lines.specs.Blanks.{words, IsPassedOver}
 use Rattle.life_rle.specs.Header.{IsHeader}
-
--- the words of a line, separated by spaces and tabs
-abbrev pub words : List ℕ → List (List ℕ)
-words line = filter (λ w. not (length w == 0)) (slice_split is_blank_byte line)
 
 -- a word `Pos=x,y`
 pub record IsPlaceWord (word : List ℕ) (place : Cell) : Type 0 where

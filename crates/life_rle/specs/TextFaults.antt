@@ -12,8 +12,10 @@ use Rattle.rle_items.specs.Reach.{IsInReach, cursor_behind, AreFineFrom}
 use Rattle.rle_items.specs.Faults.{BeginsAt, IsAtCount}
 use Rattle.life_rle.specs.declared.error.RleError.{RleError}
 use Rattle.life_rle.specs.declared.error.RleError.TheVariants.{NoHeader, BadHeader, BadRule, BadItem, BadCount, NoEnd, TooFar, TooMany, Memory}
-use Rattle.life_rle.specs.Lines.{first_line, BeginsWithLines}
-use Rattle.life_rle.specs.Blanks.{IsPassedOver, blanked}
+use Rattle.text_lines.specs.Lines.{first_line}
+use Rattle.life_rle.specs.Rests.{BeginsWithLines}
+use Rattle.text_lines.specs.Blanks.{IsPassedOver}
+use Rattle.life_rle.specs.Comments.{blanked}
 use Rattle.life_rle.specs.Header.{HasHeaderForm, IsHeader}
 use Rattle.life_rle.specs.Text.{gives_place, IsAtHeader, HasBody, Says}
 

@@ -2,7 +2,7 @@
 use Rattle.std.specs.Prelude.{◌≡◌, ◌≢◌, ℕ, ◌<◌, ◌≤◌, ◌^◌, Bool, true, false, ◌==◌, ℤ, List, ◌∷◌, ◌++◌}
 use Rattle.std.specs.List.{AllByRecursion}
 use Rattle.life_cells.specs.declared.cell.Cell.{Cell}
-use Rattle.life_rle.specs.Blanks.{is_blank_byte}
+use Rattle.text_lines.specs.Blanks.{is_blank_byte}
 use Rattle.rle_items.specs.Reach.{IsNearZero, IsInReach}
 
 abbrev pub is_comma : ℕ → Bool

@@ -3,11 +3,11 @@
 ghost use Rattle.std.specs.Prelude.{◌≡◌, ◌↔◌, not, IsTrue};
 ghost use Rattle.std.specs.List.{position};
 ghost use Rattle.rle_items.specs.Spelling.{is_white};
-ghost use Rattle.life_rle.specs.Lines.{EndsWith};
+ghost use Rattle.life_rle.specs.Rests.{EndsWith};
 ghost use Rattle.life_rle.specs.TextFaults.{IsPastWhite};
 ghost use Rattle.life_rle.specs.Comments.{begins_line, seen_from, BeginsComment};
 
-use crate::passed::split_line;
+use text_lines::split_line;
 
 /// Whether a byte is white space.
 fn is_white(byte: u8) -> bool

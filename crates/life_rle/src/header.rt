@@ -3,13 +3,13 @@
 ghost use Rattle.std.specs.Prelude.{◌≡◌, ℕ, ◌↔◌, ◌++◌, not, map, List, IsTrue, IfOk, IfErr, IfSome, IfNone};
 ghost use Rattle.std.specs.List.{position};
 ghost use Rattle.std.specs.Char.{to_ascii_lowercase};
-ghost use Rattle.life_rle.specs.Blanks.{is_blank_byte};
+ghost use Rattle.text_lines.specs.Blanks.{is_blank_byte};
 ghost use Rattle.life_rle.specs.Header.{IsPast, IsPastNumber, IsPastValue, BeginsWithSize, GivesRule, IsHeader, NamesLife};
 ghost use Rattle.life_rle.specs.HeaderRead.{IsPastBlanks, BeginsInked, IsWordOf, HasForm, HeaderIsRefused};
 
 use crate::error::RleError;
-use crate::passed::{is_blank, is_blank_byte};
 use rle_items::digits::{MOST_DIGITS, split_digits};
+use text_lines::{is_blank, is_blank_byte};
 
 /// What a line is as a header.
 #[derive(Clone, Copy)]

@@ -10,7 +10,6 @@ mod header;
 pub mod laws;
 mod limits;
 mod lines;
-mod passed;
 pub mod pattern;
 mod place;
 pub mod read;

@@ -5,15 +5,15 @@ ghost use Rattle.std.specs.List.{position};
 ghost use Rattle.std.specs.Str.{all_ascii_digits};
 ghost use Rattle.life_cells.specs.declared.cell.Cell.{Cell};
 ghost use Rattle.rle_items.specs.Numbers.{value, IsDigits, IsWhole};
-ghost use Rattle.life_rle.specs.Blanks.{is_blank_byte};
-ghost use Rattle.life_rle.specs.Text.{IsPlaceWord, IsPlaceIn, words};
+ghost use Rattle.text_lines.specs.Blanks.{is_blank_byte, words};
+ghost use Rattle.life_rle.specs.Text.{IsPlaceWord, IsPlaceIn};
 ghost use Rattle.life_rle.specs.Told.{TellsSize, TellsNumber, TellsPlace, is_comma, IsCommaSplit, IsWordSplit, IsOneWord};
 
 use crate::header::skip;
-use crate::passed::is_blank_byte;
 use life_cells::Cell;
 use rle_items::digits::split_digits;
 use rle_items::reach::FARTHEST;
+use text_lines::is_blank_byte;
 
 /// A number with one more digit behind it; one beyond 2^40 stays as it is.
 fn with_digit(size: u64, digit: u8) -> u64

@@ -4,10 +4,9 @@ ghost use Rattle.std.specs.Prelude.{◌≡◌, ◌≤◌, ◌^◌, length, IfOk,
 ghost use Rattle.life_cells.specs.Cells.{alive, in_order};
 ghost use Rattle.life_cells.specs.Boxes.{IsInRange};
 ghost use Rattle.life_rle.specs.Text.{Means};
-ghost use Rattle.life_rle.specs.Lines.{EndsWith};
+ghost use Rattle.life_rle.specs.Rests.{EndsWith};
 ghost use Rattle.rle_items.specs.Reach.{IsInReach};
-ghost use Rattle.life_rle.specs.Blanks.{blanked};
-ghost use Rattle.life_rle.specs.Comments.{seen_from};
+ghost use Rattle.life_rle.specs.Comments.{seen_from, blanked};
 ghost use Rattle.life_rle.specs.ItemsRead.{IsRead};
 ghost use Rattle.life_rle.specs.TextFaults.{IsFineText, ItemsStopWith, TextStopsWith};
 

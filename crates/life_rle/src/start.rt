@@ -1,20 +1,21 @@
 //! What stands before the items of a text: lines that are passed over, and the header.
 
 ghost use Rattle.std.specs.Prelude.{◌≡◌, ℕ, ◌+◌, ◌<◌, length, IfOk, IfErr};
-ghost use Rattle.life_rle.specs.Lines.{first_line, behind, EndsWith};
-ghost use Rattle.life_rle.specs.Blanks.{IsPassedOver};
+ghost use Rattle.text_lines.specs.Lines.{first_line, behind};
+ghost use Rattle.life_rle.specs.Rests.{EndsWith};
+ghost use Rattle.text_lines.specs.Blanks.{IsPassedOver};
 ghost use Rattle.rle_items.specs.Reach.{IsInReach};
-ghost use Rattle.life_rle.specs.Text.{HasBody};
+ghost use Rattle.life_rle.specs.Text.{gives_place, HasBody};
 ghost use Rattle.life_rle.specs.TextFaults.{StartStopsWith};
 ghost use Rattle.life_rle.specs.Opened.{IsOpened, Gives, PlaceIsRefused};
 
 use crate::error::RleError;
 use crate::header::check_header;
-use crate::passed::{gives_place, is_passed_over, split_line};
 use crate::place::place_in;
 use life_cells::Cell;
 use rle_items::front::offset;
 use rle_items::reach::is_in_reach;
+use text_lines::{is_passed_over, split_line};
 
 /// A line that may give the place, and where it begins.
 #[derive(Clone, Copy)]
@@ -43,6 +44,13 @@ pub struct Start<'a> {
     pub place: Cell,
     /// What stands behind the header's line.
     pub body: &'a [u8],
+}
+
+/// Whether a line may give the place of the items.
+fn gives_place(line: &[u8]) -> bool
+    ensures { result ≡ gives_place line.now }
+{
+    line.starts_with(b"#CXRLE")
 }
 
 /// The first line that may give the place, of one line more.

@@ -4,7 +4,7 @@ ghost use Rattle.std.specs.Prelude.{◌≡◌, ℕ, ◌<◌, ◌≤◌, ◌^◌,
 ghost use Rattle.life_cells.specs.declared.cell.Cell.{Cell};
 ghost use Rattle.rle_items.specs.declared.item.Item.{Item};
 ghost use Rattle.rle_items.specs.Spelling.{IsCount};
-ghost use Rattle.life_rle.specs.Lines.{EndsWith};
+ghost use Rattle.life_rle.specs.Rests.{EndsWith};
 ghost use Rattle.life_rle.specs.TextFaults.{IsAtTag, IsItemFault};
 ghost use Rattle.life_rle.specs.Comments.{seen_from};
 ghost use Rattle.life_rle.specs.ItemsRead.{IsItemAt, IsEndBehind};

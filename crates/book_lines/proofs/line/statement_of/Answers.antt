@@ -1,7 +1,7 @@
 use Rattle.std.proofs.Common.{◌≡◌, ◌∷◌, ap, sym, ◌∙◌}
 use Rattle.book_lines.specs.Lines.{texts}
 use Rattle.book_lines.proofs.line.statement_of.Goals as goal
-use Rattle.book_lines.specs.Lines.{words}
+use Rattle.text_lines.specs.Blanks.{words}
 use Rattle.book_lines.proofs.Saying.{line_ok, line_err, no_first, no_keyword}
 
 pub returns-in_default-clause-err : goal.returns-in_default-clause-err

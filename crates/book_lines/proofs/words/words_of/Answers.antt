@@ -4,7 +4,7 @@ use Rattle.book_lines.proofs.words.words_of.Goals as goal
 use Rattle.std.proofs.Common.{◌==◌, not, Vec, Global, Bor, Result, IfOk}
 use Rattle.std.proofs.lemmas.Iterator.Consumers.{map_from_collect, YieldsList-at, YieldsList-from_filter}
 use Rattle.std.proofs.lemmas.Iterator.Splits.{YieldsList-from_slice_split}
-use Rattle.book_lines.specs.Lines.{is_blank_byte, words}
+use Rattle.text_lines.specs.Blanks.{is_blank_byte, words}
 
 pub returns : goal.returns
 returns c =

@@ -4,7 +4,7 @@ use Rattle.std.specs.Str.Lines.{lines}
 use Rattle.std.specs.List.{AllByRecursion}
 use Rattle.std.proofs.lemmas.List.{append-nil}
 use Rattle.std.proofs.lemmas.Bool.{false≢true}
-use Rattle.book_lines.specs.Lines.{IsPassedOver}
+use Rattle.text_lines.specs.Blanks.{IsPassedOver}
 use Rattle.book_text.specs.Drafted.{IsVersionRefusal}
 use Rattle.book_text.proofs.Refusing.{all_over, one_more, longer, version_refused, err_is, no_lines}
 

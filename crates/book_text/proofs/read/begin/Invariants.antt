@@ -2,7 +2,7 @@ use Rattle.std.proofs.Common.{◌≡◌, ◌≤◌, ◌+◌, ℕ, List, length, 
 use Rattle.book_text.proofs.read.begin.Given as goal
 use Rattle.std.specs.List.{AllByRecursion}
 use Rattle.std.specs.Str.Lines.{lines}
-use Rattle.book_lines.specs.Lines.{IsPassedOver}
+use Rattle.text_lines.specs.Blanks.{IsPassedOver}
 
 -- the lines so far are passed over
 abbrev pub invariant-loop-rest : goal.invariant-loop-rest

@@ -1,5 +1,5 @@
 use Rattle.std.proofs.Common.{◌≡◌, true, false, not, inl, inr, sym, ap, ◌∙◌, subst, List, ℕ}
-use Rattle.life_rle.specs.Blanks.{IsPassedOver}
+use Rattle.text_lines.specs.Blanks.{IsPassedOver}
 use Rattle.life_rle.specs.Text.{gives_place}
 use Rattle.life_rle.proofs.Lined.{ends_short}
 use Rattle.life_rle.proofs.Starting.{opened_first, opened_again}
