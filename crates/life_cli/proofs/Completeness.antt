@@ -16,8 +16,8 @@ use Rattle.book_parts.specs.declared.kind.RawKind.{RawKind}
 use Rattle.book_parts.specs.declared.turn.RawTurn.{RawTurn}
 use Rattle.book_text.specs.Book.{Said, Says, StopsWith}
 use Rattle.book_text.specs.declared.error.BookError as book
-use Rattle.build_plan.specs.Targets.{IsTarget, TargetIsRefused}
-use Rattle.build_plan.specs.declared.refusal.TargetError as target
+use Rattle.life_target.specs.Targets.{IsTarget, TargetIsRefused}
+use Rattle.life_target.specs.declared.refusal.TargetError as target
 use Rattle.recipe_turn.specs.Checked.{AreValid}
 use Rattle.recipe_turn.specs.Elbows.{HasStates}
 use Rattle.recipe_book.specs.Checked.{most_states}

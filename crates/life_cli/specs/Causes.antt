@@ -14,8 +14,8 @@ use Rattle.life_rle.specs.declared.error.RleError as rle
 use Rattle.book_text.specs.Book.{Said, StopsWith}
 use Rattle.book_text.specs.declared.error.BookError as book
 use Rattle.book_parts.specs.declared.turn.RawTurn.{RawTurn}
-use Rattle.build_plan.specs.Targets as targets
-use Rattle.build_plan.specs.declared.refusal.TargetError as target
+use Rattle.life_target.specs.Targets as targets
+use Rattle.life_target.specs.declared.refusal.TargetError as target
 use Rattle.recipe_book.specs.Entries.{AreTheSound}
 use Rattle.recipe_book.specs.Refusals.{BookIsRefused}
 use Rattle.recipe_book.specs.declared.refusal.BookRefusal as check

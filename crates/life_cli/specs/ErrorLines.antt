@@ -13,7 +13,7 @@ use Rattle.book_text.specs.declared.error.BookWord as setting
 use Rattle.life_cli.specs.declared.words.WordsError as words
 use Rattle.life_cli.specs.declared.status.Which.{Which}
 use Rattle.life_cli.specs.declared.status.Which.TheVariants.{Book, Target, Pattern}
-use Rattle.build_plan.specs.declared.refusal.TargetError as target
+use Rattle.life_target.specs.declared.refusal.TargetError as target
 use Rattle.recipe_book.specs.declared.refusal.BookRefusal as check
 use Rattle.stream_time.specs.declared.building.PlanError as plan
 use Rattle.life_cli.specs.declared.status.Status.{Status}

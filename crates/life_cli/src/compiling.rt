@@ -4,7 +4,7 @@ ghost use Rattle.std.specs.Prelude.{◌≡◌, ◌≢◌, ◌≤◌, ◌^◌, If
 ghost use Rattle.life_plane.specs.Plane.{nothing};
 ghost use Rattle.life_cells.specs.Cells.{alive};
 ghost use Rattle.life_cells.specs.Boxes.{IsInRange};
-ghost use Rattle.build_plan.specs.Targets.{IsTarget};
+ghost use Rattle.life_target.specs.Targets.{IsTarget};
 ghost use Rattle.life_io.specs.Counts.{IsLaterCount};
 ghost use Rattle.life_io.specs.Texts.{Holds};
 ghost use Rattle.book_text.specs.Book.{Said, IsBook};
@@ -19,7 +19,7 @@ use crate::inputs::{fetch_book, fetch_pattern};
 use crate::status::{Status, Which};
 use crate::writing::text_of_built;
 use book_parts::RawBook;
-use build_plan::{Target, TargetError};
+use life_target::{Target, TargetError};
 use life_cells::{CellSet, NoMemory};
 use life_io::Depot;
 use life_steps::Steps;

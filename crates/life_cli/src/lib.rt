@@ -13,7 +13,7 @@ pub mod status;
 pub mod words;
 mod writing;
 
-pub use build_plan::TargetError;
+pub use life_target::TargetError;
 pub use recipe_book::BookRefusal;
 pub use run::life_run;
 pub use status::{Status, Which};

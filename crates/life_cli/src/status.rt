@@ -5,7 +5,7 @@ ghost use Rattle.life_cli.specs.Statuses.{number_of};
 
 use crate::words::WordsError;
 use book_text::BookError;
-use build_plan::TargetError;
+use life_target::TargetError;
 use life_cells::Cell;
 use life_rle::RleError;
 use recipe_book::BookRefusal;
