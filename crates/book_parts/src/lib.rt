@@ -3,7 +3,6 @@
 #![tactic(auto)]
 
 pub mod book;
-pub mod frame;
 pub mod kind;
 pub mod name;
 pub mod numbers;
@@ -12,7 +11,6 @@ pub mod settings;
 pub mod turn;
 
 pub use book::RawBook;
-pub use frame::HitFrame;
 pub use kind::RawKind;
 pub use name::Name;
 pub use numbers::Numbers;

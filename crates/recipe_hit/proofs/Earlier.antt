@@ -7,24 +7,19 @@ use Rattle.life_plane.specs.Apart.{Apart}
 use Rattle.life_plane.specs.Evolve.{run-add, run_union, still_run}
 use Rattle.life_plane.specs.Salvo.{salvo_glider, run_salvo}
 use Rattle.life_plane.specs.Strips.{Each}
-use Rattle.life_scene.specs.Hits as scene
+use Rattle.life_scene.specs.HitLaws.{coming_apart, hit_lasts}
 use Rattle.life_cells.specs.declared.bounds.Bounds.{Bounds}
+use Rattle.life_cells.specs.Cells.{alive}
 use Rattle.life_cells.specs.Boxes.{Holds}
 use Rattle.recipe_hit.specs.declared.hit.Hit.{Hit}
 use Rattle.recipe_hit.specs.Strike.{first_quarter, hit_start, ever, ComesToRest, IsHit}
+use Rattle.recipe_hit.specs.SceneHitLaws.{as_box, held, scene_hit}
 use Rattle.recipe_hit.specs.FurtherBack.{start_before, IsHitFrom}
-
--- a box as the scene knows it
-abbrev pub scene_box : Bounds → scene.Box
-scene_box b = record { left = b.left; top = b.top; right = b.right; bottom = b.bottom }
-
-pub held : (box : Bounds) (s : Plane) → Holds box s → Each (scene.InBox (scene_box box)) s
-held box s h x y l = let i = h.each x y l in record { left = i.right_of_left; top = i.below_top; right = i.left_of_right; bottom = i.above_bottom }
 
 module _ (struck : Plane) (box : Bounds) (lane : ℤ) (still : IsStill struck) (holds : Holds box struck) where
   -- before its hit begins the glider doesn't touch what is struck
   coming : (j : ℤ) → j ≤ℤ (pos 4 *ℤ first_quarter box lane) → Apart struck (salvo_glider lane j)
-  coming j early = scene.coming_apart lane (scene_box box) struck j (held box struck holds) (omega (arith, ints, early))
+  coming j early = coming_apart lane (as_box box) struck j (held box struck holds) (omega (arith, ints, early))
 
   -- and only moves on
   pub moves_on : (back n : ℕ) → n ≤ back → run n (start_before back struck box lane) ≡ union struck (salvo_glider lane ((pos 4 *ℤ first_quarter box lane -ℤ pos back) +ℤ pos n))
@@ -68,33 +63,10 @@ module _ (struck : Plane) (box : Bounds) (lane : ℤ) (still : IsStill struck) (
     ];
   }
 
-in_left : (a b : Bool) → a ≡ true → (a || b) ≡ true
-in_left a b h = ap (λ c. c || b) h
-
-in_right : (a b : Bool) → b ≡ true → (a || b) ≡ true
-in_right true b h = refl
-in_right false b h = h
-
--- each generation up to the last is in all of them
-pub in_ever : (n t : ℕ) (s : Plane) (x y : ℤ) → t ≤ n → run t s x y ≡ true → ever n s x y ≡ true
-in_ever zero t s x y le l = let first : t ≡ 0 = omega arith in subst (λ k. run k s x y ≡ true) first l
-in_ever (suc n) t s x y le l = by (cases_lt t (suc n)) (λ early. in_ever n t s x y early l)
-  where
-    by : (t < suc n) ⊎ (suc n ≤ t) → (t ≤ n → ever n s x y ≡ true) → ever (suc n) s x y ≡ true
-    by (inl lt) rest = in_left (ever n s x y) (run (suc n) s x y) (rest (omega arith))
-    by (inr ge) rest = let last : t ≡ suc n = omega arith in in_right (ever n s x y) (run (suc n) s x y) (subst (λ k. run k s x y ≡ true) last l)
-
 -- a hit lasts
 pub lasts : (struck : Plane) (lane : ℤ) (hit : Hit) → IsStill struck → IsHit struck lane hit → 0 < hit.generations
 lasts struck lane hit still h =
-    let four = scene.hit_lasts struck (scene_box h.box) lane (first_quarter h.box lane) hit.generations (run hit.generations (hit_start struck h.box lane)) (scene_box hit.frame.bounds) still (record {
-      fits = held h.box struck h.box_is.holds;
-      begins = refl;
-      ends = refl;
-      still = h.rests.still;
-      first = h.rests.first;
-      inside = λ t le x y l. held hit.frame.bounds (ever hit.generations (hit_start struck h.box lane)) h.bounds.holds x y (in_ever hit.generations t (hit_start struck h.box lane) x y le l);
-    }) in
+    let four = hit_lasts struck (as_box h.box) lane hit.frame.start hit.generations (alive hit.after) (as_box hit.frame.bounds) still (scene_hit struck lane hit h) in
     omega arith
 
 -- the hit is the same from further back

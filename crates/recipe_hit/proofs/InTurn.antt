@@ -15,7 +15,7 @@ use Rattle.recipe_hit.specs.Sound.{AreHits, what_is_left}
 use Rattle.recipe_hit.specs.Checked.{IsSmall, IsSmallFrame, AreSmallFrames}
 use Rattle.recipe_hit.specs.Joins.{IsBoxInRange}
 use Rattle.recipe_hit.proofs.Joining.{box_in_range, range_of_box}
-use Rattle.recipe_hit.proofs.Earlier.{in_ever}
+use Rattle.recipe_hit.specs.SceneHitLaws.{in_ever}
 
 -- ---- what is left
 

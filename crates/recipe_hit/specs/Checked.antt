@@ -11,9 +11,9 @@ use Rattle.life_islands.specs.Shapes.{IsShapeOf}
 use Rattle.book_parts.specs.Limits.{IsFrom}
 use Rattle.book_parts.specs.Proper.{IsProperSalvo}
 use Rattle.book_parts.specs.declared.salvo.RawSalvo.{RawSalvo}
-use Rattle.book_parts.specs.declared.frame.HitFrame.{HitFrame}
+use Rattle.recipe_hit.specs.declared.frame.HitFrame.{HitFrame}
 use Rattle.book_parts.specs.contracts.salvo.RawSalvo as raw_salvo
-use Rattle.book_parts.specs.contracts.frame.HitFrame as frame_row
+use Rattle.recipe_hit.specs.contracts.frame.HitFrame as frame_row
 use Rattle.recipe_hit.specs.declared.hit.Hit.{Hit}
 use Rattle.recipe_hit.specs.Sound.{IsSound}
 

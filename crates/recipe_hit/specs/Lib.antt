@@ -1,5 +1,6 @@
 -- Hits at the hand, and what makes a salvo sound.
 pub mod Strike
+pub mod SceneHitLaws
 pub mod Hands
 pub mod Refusals
 pub mod Rest

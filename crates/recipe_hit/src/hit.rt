@@ -1,6 +1,6 @@
 //! What a hit is seen as.
 
-use book_parts::HitFrame;
+use crate::frame::HitFrame;
 use life_cells::CellSet;
 
 /// A hit at the hand: a glider has struck, and all has come to rest.

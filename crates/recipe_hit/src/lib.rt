@@ -5,6 +5,7 @@
 mod boxes;
 pub mod checked_salvo;
 mod ending;
+pub mod frame;
 pub mod hand;
 pub mod hit;
 mod in_turn;
@@ -18,6 +19,7 @@ pub mod striking;
 mod tests;
 
 pub use checked_salvo::{CheckedSalvo, check_salvo};
+pub use frame::HitFrame;
 pub use hand::{Hand, check_hand};
 pub use hit::Hit;
 pub use refusal::{HandRefusal, HitRefusal, SalvoRefusal};

@@ -10,10 +10,10 @@ ghost use Rattle.recipe_hit.specs.Strike.{IsHit, first_quarter};
 ghost use Rattle.recipe_hit.specs.Refusals.{HitIsRefused};
 
 use crate::boxes::{grown, is_near};
+use crate::frame::HitFrame;
 use crate::hit::Hit;
 use crate::refusal::HitRefusal;
 use crate::rest::{LIMIT, come_to_rest};
-use book_parts::HitFrame;
 use life_cells::{Bounds, CellSet, NoMemory};
 use life_gliders::{Track, glider_cells};
 use life_steps::Steps;

@@ -1,10 +1,11 @@
 -- The gaps of a turn, place by place.
 use Rattle.std.specs.Prelude.{◌≡◌, ℕ, ◌+◌, ℤ, pos, ◌+ℤ◌, ◌≤ℤ◌, List, [], ◌∷◌, ◌++◌, length}
+use Rattle.life_plane.specs.Tracks.{gap}
 
--- each delay is at least 20 more than the one before it
+-- each delay is at least a gap more than the one before it
 abbrev pub AreApartFrom : ℤ → List ℤ → Type 0
 AreApartFrom before [] = Unit {0}
-AreApartFrom before (delay ∷ delays) = ((before +ℤ pos 20) ≤ℤ delay) × AreApartFrom delay delays
+AreApartFrom before (delay ∷ delays) = ((before +ℤ pos gap) ≤ℤ delay) × AreApartFrom delay delays
 
 -- and the first, if there is one, is 0
 abbrev pub AreApart : List ℤ → Type 0

@@ -4,7 +4,7 @@ use Rattle.std.specs.Int.{int_div_euclid}
 use Rattle.std.specs.List.{AllByRecursion}
 use Rattle.book_parts.specs.Limits.{IsFrom}
 use Rattle.life_plane.specs.Plane.{Plane, run, union, shift, nothing}
-use Rattle.life_plane.specs.Tracks.{stream_glider}
+use Rattle.life_plane.specs.Tracks.{gap, stream_glider}
 use Rattle.life_plane.specs.Salvo.{salvo_glider}
 use Rattle.book_parts.specs.declared.settings.Settings.{Settings}
 use Rattle.book_parts.specs.declared.turn.RawTurn.{RawTurn}
@@ -26,10 +26,10 @@ turn_end Close next = nothing
 turn_end (Move kind step) next = shift step step next
 turn_end (Emit kind step lane j) next = union (shift step step next) (salvo_glider lane j)
 
--- each delay is at least 20 more than the one before it, and n at least 20 more than the last
+-- each delay is at least a gap more than the one before it, and n at least a gap more than the last
 abbrev pub AreSpacedFrom : ℤ → List ℤ → ℤ → Type 0
-AreSpacedFrom before [] n = (before +ℤ pos 20) ≤ℤ n
-AreSpacedFrom before (delay ∷ delays) n = ((before +ℤ pos 20) ≤ℤ delay) × AreSpacedFrom delay delays n
+AreSpacedFrom before [] n = (before +ℤ pos gap) ≤ℤ n
+AreSpacedFrom before (delay ∷ delays) n = ((before +ℤ pos gap) ≤ℤ delay) × AreSpacedFrom delay delays n
 
 -- the first delay is 0
 abbrev pub AreSpaced : List ℤ → ℤ → Type 0
@@ -62,7 +62,7 @@ pub record IsSound (settings : Settings) (kind next : Plane) (turn : RawTurn) : 
   pub bounds : KeepsBounds settings turn.delays (turn_start settings kind turn) turn.n
   pub front : IsInFront settings turn.end
 
--- the numbers of a closing turn are within the limits of a book: at most 64 delays from 0 to 65,536, and at most 65,536 generations
+-- the numbers of a turn are within the limits of a book: at most 64 delays from 0 to 65,536, and at most 65,536 generations
 pub record AreFewDelays (turn : RawTurn) : Type 0 where
   pub count : length turn.delays ≤ 64
   pub range : AllByRecursion (λ delay. IsFrom (pos 0) (pos 65536) delay) turn.delays

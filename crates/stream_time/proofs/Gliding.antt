@@ -1,47 +1,30 @@
 -- The gliders of a turn, appended one after the other.
-use Rattle.std.proofs.Common.{◌≡◌, ℕ, zero, suc, ◌+◌, ◌<◌, ◌≤◌, ◌^◌, pos, neg_ℤ, Bool, true, false, ◌||◌, ℤ, ◌-ℤ◌, List, [], ◌∷◌, ◌++◌, length, get_or, take, refl, sym, ap, ◌∙◌, arith, w64, to_z, of_z}
-use Rattle.std.specs.List.{AllByRecursion}
+use Rattle.std.proofs.Common.{◌≡◌, ℕ, ◌+◌, ◌<◌, ◌≤◌, ◌||◌, ℤ, ◌-ℤ◌, List, [], ◌∷◌, ◌++◌, length, get_or, take, sym, ap, ◌∙◌, arith, w64, to_z, of_z}
 use Rattle.std.proofs.lemmas.Int.{ints}
 use Rattle.std.proofs.lemmas.List.{take_more, take_all}
-use Rattle.std.proofs.Math.Bool.{or_assoc}
-use Rattle.life_plane.specs.Plane.{Plane, union, nothing, same_plane}
+use Rattle.std.proofs.Math.Bool.{or_assoc, or-false}
+use Rattle.life_plane.specs.PlaneLaws.{union_assoc}
+use Rattle.life_plane.specs.Plane.{Plane, union, same_plane}
 use Rattle.life_plane.specs.Tracks.{stream_glider}
 use Rattle.life_cells.specs.declared.cell.Cell.{Cell}
 use Rattle.life_cells.specs.Listed.{listed}
 use Rattle.life_cells.specs.Laws.{listed-append}
 use Rattle.book_parts.specs.declared.settings.Settings.{Settings}
-use Rattle.book_parts.specs.Limits.{IsFrom}
 use Rattle.book_parts.specs.Proper.{IsDelay}
 use Rattle.recipe_turn.specs.Turn.{gliders}
-
--- what holds of each holds at a place
-pub each_at : {X : Type 0} (P : X → Type 0) (xs : List X) → AllByRecursion P xs → (i : ℕ) (d : X) → i < length xs → P (get_or xs i d)
-each_at P [] h i d lt = absurd (omega arith)
-each_at P (x ∷ xs) h zero d lt = h.0
-each_at P (x ∷ xs) h (suc i) d lt = each_at P xs h.1 i d (omega arith)
+use Rattle.stream_time.specs.Laying.{IsTime}
 
 -- a delay that is read is what it was
 pub delay_read : (z : ℤ) → IsDelay z → to_z w64 (of_z w64 z) ≡ z
 delay_read z h = let low = h.low in let high = h.high in omega (arith, ints)
 
 -- so is a time
-pub time_read : (z : ℤ) → IsFrom (neg_ℤ (pos (2 ^ 58))) (pos (2 ^ 58)) z → to_z w64 (of_z w64 z) ≡ z
+pub time_read : (z : ℤ) → IsTime z → to_z w64 (of_z w64 z) ≡ z
 time_read z h = let low = h.low in let high = h.high in omega (arith, ints)
 
 -- the glider of one delay at a time
 abbrev pub own : Settings → ℤ → ℤ → Plane
 own settings t delay = stream_glider ((t -ℤ settings.approach) -ℤ delay)
-
-or-false : (b : Bool) → (b || false) ≡ b
-or-false true = refl
-or-false false = refl
-
--- joined to nothing
-pub union_none : (s : Plane) → union s nothing ≡ s
-union_none s = same_plane _ _ (λ x y. or-false (s x y))
-
-union_assoc : (s t u : Plane) → union (union s t) u ≡ union s (union t u)
-union_assoc s t u = same_plane _ _ (λ x y. or_assoc (s x y) (t x y) (u x y))
 
 -- one more delay is one more glider
 gliders_push : (settings : Settings) (ds : List ℤ) (d t x y : ℤ) → gliders settings (ds ++ d ∷ []) t x y ≡ (gliders settings ds t x y || own settings t d x y)

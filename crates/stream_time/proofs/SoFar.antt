@@ -1,25 +1,24 @@
 -- The turns of a list so far, counted or laid out.
-use Rattle.std.proofs.Common.{◌≡◌, ℕ, suc, ◌+◌, ◌*◌, ◌^◌, ◌<◌, ◌≤◌, pos, neg_ℤ, ◌+ℤ◌, List, [], ◌∷◌, length, refl, sym, ap, subst, ◌∙◌, arith, get_or, drop}
+use Rattle.std.proofs.Common.{◌≡◌, ℕ, suc, ◌+◌, ◌*◌, ◌^◌, ◌<◌, ◌≤◌, pos, ◌+ℤ◌, List, [], ◌∷◌, length, refl, sym, ap, subst, ◌∙◌, arith, get_or, drop}
 use Rattle.std.proofs.lemmas.Int.{ints}
 use Rattle.std.proofs.Math.Seq.{drop-cons}
 use Rattle.std.proofs.lemmas.List.{at_drop_all}
 use Rattle.std.proofs.lemmas.List.Sums.{sum_by-cons}
-use Rattle.std.proofs.Math.Bool.{or_assoc}
-use Rattle.life_plane.specs.Plane.{Plane, union, same_plane}
+use Rattle.life_plane.specs.PlaneLaws.{union_assoc, union_none}
+use Rattle.life_plane.specs.Plane.{union, same_plane}
 use Rattle.life_cells.specs.Listed.{listed}
-use Rattle.book_parts.specs.Limits.{IsFrom}
 use Rattle.book_parts.specs.Proper.{IsProperTurn}
 use Rattle.book_parts.specs.declared.settings.Settings.{Settings}
 use Rattle.book_parts.specs.declared.turn.RawTurn.{RawTurn}
 use Rattle.elbow_route.specs.Lists.{IsNumbered}
-use Rattle.stream_time.specs.Schedule.{Timed, end, step_of}
+use Rattle.stream_time.specs.Schedule.{Timed, end, advance_of}
 use Rattle.stream_time.specs.Pattern.{turn_gliders, stream, last_end}
 use Rattle.stream_time.specs.Timing.{timed, wait}
-use Rattle.stream_time.specs.Numbered.{AreNumbered, count_of, numbered_once}
-use Rattle.stream_time.specs.Laying.{IsEarly, IsPushed, IsLaidOut}
+use Rattle.stream_time.specs.Numbered.{AreNumbered, count_of}
+use Rattle.stream_time.specs.NumberedLaws.{numbered_once}
+use Rattle.stream_time.specs.Laying.{IsShift, IsEarly, latest_start, IsPushed, IsLaidOut}
 use Rattle.stream_time.specs.declared.layout.Layout.{Layout}
-use Rattle.stream_time.proofs.Gliding.{union_none}
-use Rattle.stream_time.specs.Steps.{step_small, wait_small}
+use Rattle.stream_time.specs.RangeLaws.{early_more}
 
 -- ---- the numbers that are left
 
@@ -82,7 +81,7 @@ pub record IsLaidSoFar (settings : Settings) (turns : List RawTurn) (route : Lis
   pub are : AreNumbered turns (drop place route) later
   pub cells : union (listed layout.cells.items) (stream settings (timed later layout.shift layout.start)) ≡ stream settings (timed whole (pos 0) 0)
   pub over : over_of layout.over (timed later layout.shift layout.start) ≡ over_of 0 (timed whole (pos 0) 0)
-  pub early : IsEarly place layout
+  pub early : IsEarly place layout.shift layout.start
 
 pub lay_begins : (settings : Settings) (turns : List RawTurn) (route : List ℕ) (whole : List RawTurn) (layout : Layout) → layout.cells.items ≡ [] → layout.shift ≡ pos 0 → layout.start ≡ 0 → layout.over ≡ 0 →
     AreNumbered turns route whole → IsLaidSoFar settings turns route whole 0 layout
@@ -91,11 +90,8 @@ lay_begins settings turns route whole layout none shift start over h = record {
   are = h;
   cells = rw (none, shift, start) (same_plane _ _ (λ x y. refl));
   over = rw (shift, start, over) refl;
-  early = record { west = omega (arith, ints); east = omega (arith, ints); start = omega arith };
+  early = record { west = omega (arith, ints); east = omega (arith, ints); late = omega arith };
 }
-
-union_assoc : (s t u : Plane) → union (union s t) u ≡ union s (union t u)
-union_assoc s t u = same_plane _ _ (λ x y. or_assoc (s x y) (t x y) (u x y))
 
 over_more : (over : ℕ) (m : Timed) (ms : List Timed) → over ≡ end m → over_of over ms ≡ last_end (m ∷ ms)
 over_more over m [] is = is
@@ -108,19 +104,9 @@ lay_more settings turns route whole place d kinds here old new lt numbered prope
     let same : next.turn ≡ here = numbered_once turns (get_or route place d) next.turn here next.numbered numbered in
     let later : s.later ≡ here ∷ next.rest = next.is ∙ ap (λ (t : RawTurn). t ∷ next.rest) same in
     let m : Timed = record { turn = here; shift = old.shift; start = old.start } in
-    let ms : List Timed = timed next.rest (old.shift +ℤ step_of here.end) ((old.start + here.n) + wait here.end) in
+    let ms : List Timed = timed next.rest (old.shift +ℤ advance_of here.end) ((old.start + here.n) + wait here.end) in
     let after : timed next.rest new.shift new.start ≡ ms = rw (pushed.shift, pushed.start) refl in
     let before : timed s.later old.shift old.start ≡ m ∷ ms = ap (λ (l : List RawTurn). timed l old.shift old.start) later in
-    let step = step_small kinds here.end proper.leaves in
-    let step_low = step.low in
-    let step_high = step.high in
-    let short = proper.short in
-    let waits = wait_small (step_of here.end) step_high in
-    let west = s.early.west in
-    let east = s.early.east in
-    let start = s.early.start in
-    let shift_is = pushed.shift in
-    let start_is = pushed.start in
     record {
       later = next.rest;
       are = next.are;
@@ -131,7 +117,7 @@ lay_more settings turns route whole place d kinds here old new lt numbered prope
           ∙ ap (union (listed old.cells.items)) (ap (stream settings) (sym before))
           ∙ s.cells;
       over = ap (over_of new.over) after ∙ over_more new.over m ms pushed.over ∙ sym (ap (over_of old.over) before) ∙ s.over;
-      early = record { west = omega (arith, ints); east = omega (arith, ints); start = omega arith };
+      early = rw (pushed.shift, pushed.start) (early_more kinds place old.shift old.start here proper s.early);
     }
 
 over_none : (turns : List RawTurn) → over_of 0 (timed turns (pos 0) 0) ≡ last_end (timed turns (pos 0) 0)
@@ -147,9 +133,9 @@ lay_ends settings turns route whole place layout long s =
     }
 
 -- the numbers of a layout after few turns
-pub early_enough : (place : ℕ) (layout : Layout) → place ≤ 2 ^ 22 → IsEarly place layout → IsFrom (neg_ℤ (pos (2 ^ 52))) (pos (2 ^ 52)) layout.shift × (layout.start ≤ 2 ^ 55)
+pub early_enough : (place : ℕ) (layout : Layout) → place ≤ 2 ^ 22 → IsEarly place layout.shift layout.start → IsShift layout.shift × (layout.start ≤ latest_start)
 early_enough place layout few e =
     let west = e.west in
     let east = e.east in
-    let start = e.start in
+    let late = e.late in
     (record { low = omega (arith, ints); high = omega (arith, ints) }, omega arith)

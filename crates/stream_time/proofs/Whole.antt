@@ -1,8 +1,9 @@
 -- The stream of a checked book: it is one that closes, and its pattern's last generation is nothing.
-use Rattle.std.proofs.Common.{◌≡◌, ℕ, zero, suc, ◌+◌, ◌-◌, ◌^◌, ◌<◌, ◌≤◌, ℤ, pos, ◌+ℤ◌, ◌-ℤ◌, List, [], ◌∷◌, length, refl, sym, ap, subst, ◌∙◌, arith, inl, get_or}
+use Rattle.std.proofs.Common.{◌≡◌, ℕ, zero, suc, ◌+◌, ◌-◌, ◌^◌, ◌<◌, ◌≤◌, ℤ, pos, ◌+ℤ◌, List, [], ◌∷◌, length, refl, sym, ap, subst, ◌∙◌, arith, inl, get_or}
 use Rattle.std.proofs.lemmas.Int.{ints}
 use Rattle.std.specs.List.{AllByRecursion}
-use Rattle.life_plane.specs.Plane.{Plane, union, nothing, run, shift, same_plane}
+use Rattle.life_plane.specs.PlaneLaws.{shift_none}
+use Rattle.life_plane.specs.Plane.{Plane, union, nothing, run, shift}
 use Rattle.life_cells.specs.Cells.{Cells, alive, cell}
 use Rattle.life_cells.specs.Boxes.{IsInRange}
 use Rattle.book_parts.specs.Limits.{IsPlaced}
@@ -17,12 +18,15 @@ use Rattle.recipe_turn.specs.Checked.{Checked, IsChecked, IsOf, AreValid}
 use Rattle.recipe_turn.specs.Elbows.{raws, elbow}
 use Rattle.recipe_book.specs.Checked.{CheckedEntries, IsCheckedBook}
 use Rattle.elbow_route.specs.Lists.{IsNumbered}
-use Rattle.stream_time.specs.Schedule.{Timed, step_of, Past, no_past, past_after, IsValid, IsChosen}
+use Rattle.stream_time.specs.Schedule.{Timed, advance_of, Past, no_past, past_after, IsValid, IsChosen}
 use Rattle.stream_time.specs.Pattern.{Closes, stream, pattern, last_end}
-use Rattle.stream_time.specs.Timing.{timed, wait, timed_chosen}
-use Rattle.stream_time.specs.Numbered.{AreNumbered, walked}
-use Rattle.stream_time.specs.Closing.{AreSoundHere, IsClosingStream, closing_stream_vanishes}
-use Rattle.stream_time.specs.Range.{stream_near, placed_near, both_near, near_in_range}
+use Rattle.stream_time.specs.Timing.{timed, wait}
+use Rattle.stream_time.specs.TimingLaws.{timed_chosen}
+use Rattle.stream_time.specs.Numbered.{AreNumbered}
+use Rattle.stream_time.specs.NumberedLaws.{walked}
+use Rattle.stream_time.specs.Closing.{AreSoundHere, IsClosingStream}
+use Rattle.stream_time.specs.ClosingLaws.{closing_stream_vanishes}
+use Rattle.stream_time.specs.RangeLaws.{stream_near, placed_near, both_near, near_in_range}
 use Rattle.life_cells.specs.Listed.{listed}
 use Rattle.stream_time.specs.Built.{most_gliders, IsClosing, IsBuilt, IsLong}
 use Rattle.stream_time.specs.Laying.{IsLaidOut}
@@ -94,7 +98,7 @@ sound_here : (settings : Settings) (kinds : List RawKind) → AreValid settings 
 sound_here settings kinds valid [] h shift start = tt
 sound_here settings kinds valid (turn ∷ picked) h shift start = (
   record { valid = kind_has (IsValidKind settings) kinds valid turn.kind h.0.proper.kind; sound = h.0.sound },
-  sound_here settings kinds valid picked h.1 (shift +ℤ step_of turn.end) ((start + turn.n) + wait turn.end),
+  sound_here settings kinds valid picked h.1 (shift +ℤ advance_of turn.end) ((start + turn.n) + wait turn.end),
 )
 
 -- the least starts are ones that turns may have
@@ -105,9 +109,6 @@ valid_of settings past (m ∷ ms) h = (h.0.may, valid_of settings (past_after pa
 numbered_length : (turns : List RawTurn) (list : List ℕ) (picked : List RawTurn) → AreNumbered turns list picked → length picked ≡ length list
 numbered_length turns [] picked are = ap length are
 numbered_length turns (k ∷ ks) picked are = ap length are.1.1.1.0 ∙ ap suc (numbered_length turns ks are.1.1.0 are.1.1.1.1)
-
-shift_none : (s : Plane) → shift (pos 0) (pos 0) s ≡ s
-shift_none s = same_plane _ _ (λ x y. let same : (z : ℤ) → z -ℤ pos 0 ≡ z = λ z. omega (arith, ints) in rw (same x, same y) refl)
 
 -- the turns of the least list, in time
 pub record IsWhole (book : CheckedEntries) (list : List ℕ) : Type 0 where

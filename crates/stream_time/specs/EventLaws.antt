@@ -1,7 +1,7 @@
 -- Of turns alone the definitions for turns and hits say what those for turns say.
-use Rattle.std.specs.Prelude.{◌≡◌, ◌⊎◌, Bool, true, false, ◌||◌, ℕ, ◌≤◌, ℤ, pos, ◌≤ℤ◌, List, [], ◌∷◌, Option, map}
+use Rattle.std.specs.Prelude.{◌≡◌, false, ℕ, ℤ, List, [], ◌∷◌, map}
 use Rattle.std.specs.declared.option.Option.TheVariants.{Some, None}
-use Rattle.std.proofs.Common.{refl, sym, ap, ◌∙◌, arith, inl, inr}
+use Rattle.std.proofs.Common.{refl, sym, ap, ◌∙◌, arith, inl}
 use Rattle.life_plane.specs.Plane.{Plane, nothing, union, shift, same_plane}
 use Rattle.life_cells.specs.declared.cell.Cell.{Cell}
 use Rattle.book_parts.specs.declared.settings.Settings.{Settings}
@@ -11,8 +11,8 @@ use Rattle.book_parts.specs.declared.turn.TurnEnd.TheVariants.{Close, Move, Emit
 use Rattle.book_parts.specs.Kinds.{kind_plane}
 use Rattle.stream_time.specs.Schedule.{Timed, end, Past, no_past, past_after, IsValid, IsChosen}
 use Rattle.stream_time.specs.Pattern.{stream, pattern, turn_gliders, last_end}
-use Rattle.stream_time.specs.Events.{Event, History, no_history, history_after, SparesHits, MayHappen, AreValidEvents, AreOver, AreChosenEvents, stream_of, has_hit, first_hand, pattern_of, turns_end, hits_end, IsNumber}
-use Rattle.stream_time.specs.Events.Event.{Turn, Hit}
+use Rattle.stream_time.specs.Events.{Event, History, no_history, SparesHits, AreValidEvents, AreChosenEvents, stream_of, has_hit, first_hand, pattern_of, turns_end, history_of, last_end_of, IsNumber}
+use Rattle.stream_time.specs.Events.Event.{Turn}
 
 -- turns as events
 abbrev pub turn_events : List Timed → List Event
@@ -23,8 +23,8 @@ alone past = record { past = past; hits = [] }
 
 spares_none : (e : TurnEnd) (m : Timed) → SparesHits e m []
 spares_none Close m = tt
-spares_none (Move kind step) m = tt
-spares_none (Emit kind step lane j) m = tt
+spares_none (Move kind advance) m = tt
+spares_none (Emit kind advance lane j) m = tt
 
 valid_turns : (settings : Settings) (past : Past) (ms : List Timed) → IsValid settings past ms → AreValidEvents settings (alone past) (turn_events ms)
 valid_turns settings past [] v = tt
@@ -56,9 +56,9 @@ last_turns : (ms : List Timed) → turns_end 0 (turn_events ms) ≡ last_end ms
 last_turns [] = refl
 last_turns (m ∷ ms) = last_turn 0 m ms
 
-no_last_hit : (past : History) (ms : List Timed) → hits_end past (turn_events ms) None ≡ None
-no_last_hit past [] = refl
-no_last_hit past (m ∷ ms) = no_last_hit (history_after past (Turn m)) ms
+no_hits : (past : Past) (ms : List Timed) → (history_of (alone past) (turn_events ms)).hits ≡ []
+no_hits past [] = refl
+no_hits past (m ∷ ms) = no_hits (past_after past m) ms
 
 -- what the definitions say of turns alone
 pub record SaysTheSame (settings : Settings) (ms : List Timed) : Type 0 where
@@ -74,7 +74,7 @@ says_the_same settings ms = record {
   pattern_is = λ kinds start hand back. ap (λ p. shift back.x back.y (union (kind_plane kinds start) p)) (ap (λ p. union p (stream_of settings (turn_events ms))) (no_hand hand ms) ∙ same_plane _ _ (λ x y. refl) ∙ stream_turns settings ms);
   number = record {
     turns = let same = last_turns ms in omega arith;
-    hits = λ last h. let none = no_last_hit no_history ms in absurd (some_none last (sym h ∙ none));
+    hits = λ last h. absurd (some_none last (sym h ∙ ap last_end_of (no_hits no_past ms)));
     least = inl (sym (last_turns ms));
   };
 }

@@ -1,17 +1,18 @@
 -- Turns and hits in time, for any list of them: when each turn may start, the pattern, and the number of its generations.
-use Rattle.std.specs.Prelude.{◌≡◌, ◌⊎◌, ℕ, ◌+◌, ◌≤◌, ℤ, pos, neg_ℤ, ◌+ℤ◌, ◌-ℤ◌, ◌*ℤ◌, ◌≤ℤ◌, List, [], ◌∷◌, Option, Bool, true, false, if◌then◌else◌}
+use Rattle.std.specs.Prelude.{◌≡◌, ◌⊎◌, ℕ, ◌≤◌, ℤ, pos, ◌+ℤ◌, ◌-ℤ◌, ◌*ℤ◌, ◌≤ℤ◌, List, [], ◌∷◌, Option, Bool, true, false, if◌then◌else◌}
 use Rattle.std.specs.List.{AllByRecursion}
 use Rattle.std.specs.declared.option.Option.TheVariants.{Some, None}
-use Rattle.std.proofs.Common.{inl, inr}
 use Rattle.life_plane.specs.Plane.{Plane, nothing, union, shift}
+use Rattle.life_scene.specs.Hits.{last_index_before}
 use Rattle.life_cells.specs.declared.cell.Cell.{Cell}
 use Rattle.life_cells.specs.declared.bounds.Bounds.{Bounds}
 use Rattle.book_parts.specs.declared.settings.Settings.{Settings}
 use Rattle.book_parts.specs.declared.kind.RawKind.{RawKind}
-use Rattle.book_parts.specs.declared.frame.HitFrame.{HitFrame}
+use Rattle.recipe_hit.specs.declared.frame.HitFrame.{HitFrame}
 use Rattle.book_parts.specs.declared.turn.TurnEnd.{TurnEnd}
 use Rattle.book_parts.specs.declared.turn.TurnEnd.TheVariants.{Close, Move, Emit}
 use Rattle.book_parts.specs.Kinds.{kind_plane}
+use Rattle.recipe_hit.specs.SceneHitLaws.{as_box}
 use Rattle.stream_time.specs.Schedule.{Timed, end, Thrown, Past, no_past, past_after, MayStart}
 use Rattle.stream_time.specs.Pattern.{turn_gliders}
 
@@ -30,7 +31,7 @@ pub record HasBeen : Type 0 where
   pub ended : ℤ
   pub bounds : Bounds
 
--- what has been: the turn before, the last throw, and all hits
+-- what has been: the turn before, the last throw, and all hits, the last one first
 pub record History : Type 0 where
   pub past : Past
   pub hits : List HasBeen
@@ -42,7 +43,7 @@ no_history = record { past = no_past; hits = [] }
 abbrev pub hit_end : Thrown → Struck → ℤ
 hit_end g h = ((pos g.time +ℤ pos 4 *ℤ h.frame.start) -ℤ g.j) +ℤ pos h.generations
 
--- the hit of the last throw has been
+-- what has been after a hit, which is that of the last throw; one before any throw is none
 abbrev pub hits_with : Option Thrown → Struck → List HasBeen → List HasBeen
 hits_with None h hits = hits
 hits_with (Some g) h hits = record { ended = hit_end g h; bounds = h.frame.bounds } ∷ hits
@@ -51,19 +52,15 @@ abbrev pub history_after : History → Event → History
 history_after past (Turn m) = record { past = past_after past.past m; hits = past.hits }
 history_after past (Hit h) = record { past = past.past; hits = hits_with past.past.throw h past.hits }
 
--- a glider of a lane is at distance 3 or more from a hit's bounds up to index 4 Q + 3, for these two Q
-pub record IsNotYetAt (bounds : Bounds) (lane index : ℤ) : Type 0 where
-  pub near : (index ≤ℤ (pos 4 *ℤ ((bounds.left -ℤ pos 6) -ℤ lane) +ℤ pos 3)) ⊎ (index ≤ℤ (pos 4 *ℤ ((neg_ℤ bounds.bottom) -ℤ pos 6) +ℤ pos 3))
-
 -- a thrown glider leaves a hit in peace: the hit is over when it is thrown, or the glider is not yet there when the hit ends
 abbrev pub SparesHit : Timed → ℤ → ℤ → HasBeen → Type 0
-SparesHit m lane j hit = (hit.ended ≤ℤ pos (end m)) ⊎ IsNotYetAt hit.bounds lane ((j +ℤ hit.ended) -ℤ pos (end m))
+SparesHit m lane j hit = (hit.ended ≤ℤ pos (end m)) ⊎ (((j +ℤ hit.ended) -ℤ pos (end m)) ≤ℤ last_index_before lane (as_box hit.bounds))
 
 -- what a turn throws, if it throws, spares all hits that have been
 abbrev pub SparesHits : TurnEnd → Timed → List HasBeen → Type 0
 SparesHits Close m hits = Unit {0}
-SparesHits (Move kind step) m hits = Unit {0}
-SparesHits (Emit kind step lane j) m hits = AllByRecursion (SparesHit m (lane +ℤ pos 2 *ℤ m.shift) (j -ℤ pos 4 *ℤ m.shift)) hits
+SparesHits (Move kind advance) m hits = Unit {0}
+SparesHits (Emit kind advance lane j) m hits = AllByRecursion (SparesHit m (lane +ℤ pos 2 *ℤ m.shift) (j -ℤ pos 4 *ℤ m.shift)) hits
 
 -- a turn may start as it is timed
 pub record MayHappen (settings : Settings) (past : History) (m : Timed) : Type 0 where
@@ -120,18 +117,22 @@ turns_end last [] = last
 turns_end last (Turn m ∷ events) = turns_end (end m) events
 turns_end last (Hit h ∷ events) = turns_end last events
 
+-- what has been when all of this is over
+abbrev pub history_of : History → List Event → History
+history_of past [] = past
+history_of past (event ∷ events) = history_of (history_after past event) events
+
+-- the end of the last of these hits, of which the last comes first
+abbrev pub last_end_of : List HasBeen → Option ℤ
+last_end_of [] = None
+last_end_of (hit ∷ hits) = Some hit.ended
+
 -- the end of the last hit, if there is one
-abbrev pub hits_end : History → List Event → Option ℤ → Option ℤ
-hits_end past [] last = last
-hits_end past (Turn m ∷ events) last = hits_end (history_after past (Turn m)) events last
-hits_end past (Hit h ∷ events) last = hits_end (history_after past (Hit h)) events (ended past.past.throw)
-  where
-    ended : Option Thrown → Option ℤ
-    ended None = last
-    ended (Some g) = Some (hit_end g h)
+abbrev pub hits_end : List Event → Option ℤ
+hits_end events = last_end_of (history_of no_history events).hits
 
 -- n is the greater of the end of the last turn and the end of the last hit
 pub record IsNumber (events : List Event) (n : ℕ) : Type 0 where
   pub turns : turns_end 0 events ≤ n
-  pub hits : (last : ℤ) → hits_end no_history events None ≡ Some last → last ≤ℤ pos n
-  pub least : (n ≡ turns_end 0 events) ⊎ ((last : ℤ) × ((hits_end no_history events None ≡ Some last) × (pos n ≡ last)))
+  pub hits : (last : ℤ) → hits_end events ≡ Some last → last ≤ℤ pos n
+  pub least : (n ≡ turns_end 0 events) ⊎ ((last : ℤ) × ((hits_end events ≡ Some last) × (pos n ≡ last)))

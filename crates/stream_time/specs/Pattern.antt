@@ -13,8 +13,8 @@ use Rattle.stream_time.specs.Schedule.{Timed, end}
 -- after a closing turn this is so; after a move the elbow's kind and shift are such; nothing is thrown
 abbrev pub GoesOn : TurnEnd → ℤ → Type 0 → (ℕ → ℤ → Type 0) → Type 0
 GoesOn Close at closed moved = closed
-GoesOn (Move kind step) at closed moved = moved kind (at +ℤ step)
-GoesOn (Emit kind step lane j) at closed moved = ⊥
+GoesOn (Move kind advance) at closed moved = moved kind (at +ℤ advance)
+GoesOn (Emit kind advance lane j) at closed moved = ⊥
 
 -- turns that lead on from an elbow, given by its kind and shift, by moves, and close it with the last
 abbrev pub Closes : ℕ → ℤ → List Timed → Type 0

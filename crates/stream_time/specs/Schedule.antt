@@ -1,6 +1,8 @@
 -- When the turns of a stream may start, and when they do.
 use Rattle.std.specs.Prelude.{ℕ, ◌+◌, ◌≤◌, ℤ, pos, ◌+ℤ◌, ◌-ℤ◌, ◌*ℤ◌, ◌≤ℤ◌, List, [], ◌∷◌, Option}
 use Rattle.std.specs.declared.option.Option.TheVariants.{Some, None}
+use Rattle.life_plane.specs.Tracks.{gap}
+use Rattle.life_scene.specs.Turns.{until_past}
 use Rattle.book_parts.specs.declared.settings.Settings.{Settings}
 use Rattle.book_parts.specs.declared.turn.RawTurn.{RawTurn}
 use Rattle.book_parts.specs.declared.turn.TurnEnd.{TurnEnd}
@@ -17,10 +19,10 @@ abbrev pub end : Timed → ℕ
 end m = m.start + m.turn.n
 
 -- how far a turn moves the elbow
-abbrev pub step_of : TurnEnd → ℤ
-step_of Close = pos 0
-step_of (Move kind step) = step
-step_of (Emit kind step lane j) = step
+abbrev pub advance_of : TurnEnd → ℤ
+advance_of Close = pos 0
+advance_of (Move kind advance) = advance
+advance_of (Emit kind advance lane j) = advance
 
 -- a thrown glider: the end of its turn, and its lane and index there, in the plane's coordinates
 pub record Thrown : Type 0 where
@@ -39,21 +41,21 @@ no_past = record { turn = None; throw = None }
 -- the last throw after a turn
 abbrev pub throw_after : TurnEnd → Timed → Option Thrown → Option Thrown
 throw_after Close m before = before
-throw_after (Move kind step) m before = before
-throw_after (Emit kind step lane j) m before = Some (record { time = end m; lane = lane +ℤ pos 2 *ℤ m.shift; j = j -ℤ pos 4 *ℤ m.shift })
+throw_after (Move kind advance) m before = before
+throw_after (Emit kind advance lane j) m before = Some (record { time = end m; lane = lane +ℤ pos 2 *ℤ m.shift; j = j -ℤ pos 4 *ℤ m.shift })
 
 abbrev pub past_after : Past → Timed → Past
 past_after past m = record { turn = Some m; throw = throw_after m.turn.end m past.throw }
 
--- not before the end of the turn before, and 20 generations behind it where the elbow has moved on: 4 more for each cell
+-- not before the end of the turn before, and a gap behind it, and 4 more generations for each cell that the elbow has moved on
 abbrev pub IsBehindTurn : Option Timed → ℕ → Type 0
 IsBehindTurn None start = Unit {0}
-IsBehindTurn (Some m) start = (end m ≤ start) × (((pos (end m) +ℤ pos 20) +ℤ pos 4 *ℤ step_of m.turn.end) ≤ℤ pos start)
+IsBehindTurn (Some m) start = (end m ≤ start) × (((pos (end m) +ℤ pos gap) +ℤ pos 4 *ℤ advance_of m.turn.end) ≤ℤ pos start)
 
 -- not before the last glider thrown has passed the reach
 abbrev pub IsBehindThrow : Settings → Option Thrown → ℕ → Type 0
 IsBehindThrow settings None start = Unit {0}
-IsBehindThrow settings (Some g) start = (g.time ≤ start) × ((pos g.time +ℤ ((pos 2 *ℤ ((settings.reach +ℤ pos 4) -ℤ g.lane)) -ℤ g.j)) ≤ℤ pos start)
+IsBehindThrow settings (Some g) start = (g.time ≤ start) × ((pos g.time +ℤ until_past settings.reach g.lane g.j) ≤ℤ pos start)
 
 -- a turn may start then
 pub record MayStart (settings : Settings) (past : Past) (start : ℕ) : Type 0 where

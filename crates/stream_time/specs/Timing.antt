@@ -1,90 +1,29 @@
 -- Turns one after the other, each as soon as it may start: moves, and a closing turn last.
-use Rattle.std.specs.Prelude.{◌≡◌, ◌⊎◌, ℕ, ◌+◌, ◌≤◌, ℤ, pos, negsuc, ◌+ℤ◌, ◌*ℤ◌, ◌≤ℤ◌, List, [], ◌∷◌, Option}
+use Rattle.std.specs.Prelude.{◌≡◌, ◌⊎◌, ℕ, ◌+◌, ◌^◌, ℤ, pos, negsuc, ◌+ℤ◌, ◌*ℤ◌, List, [], ◌∷◌}
 use Rattle.std.specs.declared.option.Option.TheVariants.{Some, None}
-use Rattle.std.proofs.Common.{refl, sym, subst, arith, inl, inr}
-use Rattle.std.proofs.lemmas.Int.{ints}
-use Rattle.book_parts.specs.declared.settings.Settings.{Settings}
+use Rattle.life_plane.specs.Tracks.{gap}
 use Rattle.book_parts.specs.declared.turn.RawTurn.{RawTurn}
 use Rattle.book_parts.specs.declared.turn.TurnEnd.{TurnEnd}
-use Rattle.book_parts.specs.declared.turn.TurnEnd.TheVariants.{Close, Move, Emit}
-use Rattle.stream_time.specs.Schedule.{Timed, end, step_of, Past, past_after, throw_after, Thrown, IsBehindTurn, IsLeastStart, IsChosen}
-use Rattle.stream_time.specs.Pattern.{Closes, GoesOn}
+use Rattle.stream_time.specs.Schedule.{Timed, end, advance_of, Past}
 
 -- a number, where it isn't negative; else none
 abbrev pub natural_part : ℤ → ℕ
 natural_part (pos n) = n
 natural_part (negsuc n) = 0
 
--- how long after its end a turn keeps the next one waiting: 20 generations, and 4 more for each cell that the elbow has gone on
+-- how long after its end a turn keeps the next one waiting: a gap, and 4 more generations for each cell that the elbow has gone on
 abbrev pub wait : TurnEnd → ℕ
-wait e = natural_part (pos 20 +ℤ pos 4 *ℤ step_of e)
+wait e = natural_part (pos gap +ℤ pos 4 *ℤ advance_of e)
+
+-- as long at most, since an elbow moves on by at most 2^30 cells
+abbrev pub longest_wait : ℕ
+longest_wait = 2 ^ 32 + gap
 
 -- these turns, the first of them at this shift and start, each next one when it may
 abbrev pub timed : List RawTurn → ℤ → ℕ → List Timed
 timed [] shift start = []
-timed (turn ∷ turns) shift start = record { turn = turn; shift = shift; start = start } ∷ timed turns (shift +ℤ step_of turn.end) ((start + turn.n) + wait turn.end)
+timed (turn ∷ turns) shift start = record { turn = turn; shift = shift; start = start } ∷ timed turns (shift +ℤ advance_of turn.end) ((start + turn.n) + wait turn.end)
 
 -- a turn starts when the one before it lets it, if there is one, and nothing was thrown
 abbrev pub IsNextStart : Past → ℕ → Type 0
 IsNextStart past start = (past.throw ≡ None) × ((past.turn ≡ None) × (start ≡ 0) ⊎ ((m : Timed) × ((past.turn ≡ Some m) × (start ≡ end m + wait m.turn.end))))
-
-above : (z : ℤ) (n m : ℕ) → (pos n +ℤ z) ≤ℤ pos m → n ≤ m → n + natural_part z ≤ m
-above (pos k) n m h l = omega (arith, ints)
-above (negsuc k) n m h l = omega (arith, ints)
-
-reaches : (z : ℤ) (n : ℕ) → (pos n +ℤ z) ≤ℤ pos (n + natural_part z)
-reaches (pos k) n = omega (arith, ints)
-reaches (negsuc k) n = omega (arith, ints)
-
-least_at_first : (settings : Settings) (past : Past) (start : ℕ) → past.throw ≡ None → past.turn ≡ None → start ≡ 0 → IsLeastStart settings past start
-least_at_first settings past start t u z = record {
-  may = record { turn = rw u tt; throw = rw t tt };
-  least = λ other may. omega arith;
-}
-
-behind : (z : ℤ) (n : ℕ) → ((pos n +ℤ pos 20) +ℤ pos 4 *ℤ z) ≤ℤ pos (n + natural_part (pos 20 +ℤ pos 4 *ℤ z))
-behind z n = let r = reaches (pos 20 +ℤ pos 4 *ℤ z) n in omega (arith, ints)
-
-least_behind : (settings : Settings) (past : Past) (start : ℕ) (m : Timed) → past.throw ≡ None → past.turn ≡ Some m → start ≡ end m + wait m.turn.end → IsLeastStart settings past start
-least_behind settings past start m t u z = record {
-  may = record { turn = rw (u, z) (omega arith, behind (step_of m.turn.end) (end m)); throw = rw t tt };
-  least = λ other may. rw z (earliest other (subst (λ (o : Option Timed). IsBehindTurn o other) u may.turn));
-}
-  where
-    earliest : (other : ℕ) → (end m ≤ other) × (((pos (end m) +ℤ pos 20) +ℤ pos 4 *ℤ step_of m.turn.end) ≤ℤ pos other) → end m + wait m.turn.end ≤ other
-    earliest other h = let low = h.0 in let far = h.1 in above (pos 20 +ℤ pos 4 *ℤ step_of m.turn.end) (end m) other (omega (arith, ints)) low
-
-least_start : (settings : Settings) (past : Past) (start : ℕ) → IsNextStart past start → IsLeastStart settings past start
-least_start settings past start h = by_turn h.1
-  where
-    by_turn : ((past.turn ≡ None) × (start ≡ 0)) ⊎ ((m : Timed) × ((past.turn ≡ Some m) × (start ≡ end m + wait m.turn.end))) → IsLeastStart settings past start
-    by_turn (inl p) = least_at_first settings past start h.0 p.0 p.1
-    by_turn (inr p) = least_behind settings past start p.0 h.0 p.1.0 p.1.1
-
--- ---- a walk that closes
-
--- a move's throw is that before it
-keeps_throw : (closed : Type 0) (moved : ℕ → ℤ → Type 0) (e : TurnEnd) (at : ℤ) (m : Timed) (before : Option Thrown) → GoesOn e at closed moved → before ≡ None → throw_after e m before ≡ None
-keeps_throw closed moved Close at m before h n = n
-keeps_throw closed moved (Move kind step) at m before h n = n
-keeps_throw closed moved (Emit kind step lane j) at m before h n = absurd h
-
--- what is so after a turn that closes, and after each move
-by_end : (closed : Type 0) (moved : ℕ → ℤ → Type 0) (P : Type 0) (e : TurnEnd) (at : ℤ) → GoesOn e at closed moved → (closed → P) → ((next : ℕ) (step : ℤ) → moved next (at +ℤ step) → P) → P
-by_end closed moved P Close at h c m = c h
-by_end closed moved P (Move next step) at h c m = m next step h
-by_end closed moved P (Emit next step lane j) at h c m = absurd h
-
--- turns that close in time start each as soon as it may
-pub timed_chosen : (settings : Settings) (past : Past) (kind : ℕ) (at shift : ℤ) (turns : List RawTurn) (start : ℕ) → Closes kind at (timed turns shift start) → IsNextStart past start →
-    IsChosen settings past (timed turns shift start)
-timed_chosen settings past kind at shift [] start c h = tt
-timed_chosen settings past kind at shift (turn ∷ turns) start c h =
-    let now : Timed = record { turn = turn; shift = shift; start = start } in
-    let later : List Timed = timed turns (shift +ℤ step_of turn.end) ((start + turn.n) + wait turn.end) in
-    let thrown = keeps_throw _ _ turn.end at now past.throw c.1.1 h.0 in (
-      least_start settings past start h,
-      by_end _ _ (IsChosen settings (past_after past now) later) turn.end at c.1.1
-          (λ none. subst (λ (l : List Timed). IsChosen settings (past_after past now) l) (sym none) tt)
-          (λ next step g. timed_chosen settings (past_after past now) next (at +ℤ step) (shift +ℤ step_of turn.end) turns ((start + turn.n) + wait turn.end) g (thrown, inr (now, (refl, refl)))),
-    )

@@ -5,19 +5,19 @@ ghost use Rattle.std.specs.List.{AllByRecursion};
 ghost use Rattle.life_plane.specs.Plane.{union};
 ghost use Rattle.life_plane.specs.Tracks.{stream_glider};
 ghost use Rattle.life_cells.specs.Listed.{listed};
-ghost use Rattle.book_parts.specs.Limits.{AreProper, IsFrom, IsCoordinate};
+ghost use Rattle.book_parts.specs.Limits.{AreProper, IsCoordinate};
 ghost use Rattle.book_parts.specs.Proper.{IsDelay, IsProperTurn};
 ghost use Rattle.book_parts.specs.declared.turn.RawTurn.{RawTurn};
 ghost use Rattle.recipe_turn.specs.Turn.{gliders};
-ghost use Rattle.stream_time.specs.Schedule.{step_of};
-ghost use Rattle.stream_time.specs.Timing.{wait};
-ghost use Rattle.stream_time.specs.Laying.{IsPushed};
+ghost use Rattle.stream_time.specs.Schedule.{advance_of};
+ghost use Rattle.stream_time.specs.Timing.{wait, longest_wait};
+ghost use Rattle.stream_time.specs.Laying.{IsShift, IsTime, IsPushed, latest_start, latest_end};
 
 use book_parts::{RawTurn, Settings, TurnEnd};
 use life_cells::{Cell, NoMemory};
 use life_gliders::{Track, glider_cells};
 
-/// How many generations a turn keeps the next one waiting, where the elbow stays.
+/// The least gap between two gliders of a stream, in generations: so long a turn keeps the next one waiting where the elbow stays.
 const GAP: i64 = 20;
 
 /// A stream that is being laid out.
@@ -34,8 +34,8 @@ pub struct Layout {
 }
 
 // How far a turn moves the elbow.
-fn step_of(end: TurnEnd) -> i64
-    ensures { result ≡ step_of end }
+fn advance_of(end: TurnEnd) -> i64
+    ensures { result ≡ advance_of end }
 {
     match end {
         TurnEnd::Close => 0,
@@ -45,11 +45,11 @@ fn step_of(end: TurnEnd) -> i64
 
 // How long after its end a turn keeps the next one waiting.
 fn wait_after(end: TurnEnd) -> u64
-    requires { IsCoordinate (step_of end) }
+    requires { IsCoordinate (advance_of end) }
     ensures wait { result ≡ wait end }
-    ensures short { result ≤ 2 ^ 32 + 20 }
+    ensures short { result ≤ longest_wait }
 {
-    let gap = GAP + 4 * step_of(end);
+    let gap = GAP + 4 * advance_of(end);
     if gap < 0 { 0 } else { gap as u64 }
 }
 
@@ -57,7 +57,7 @@ fn wait_after(end: TurnEnd) -> u64
 fn glider_at(settings: &Settings, delay: i64, time: i64) -> [Cell; 5]
     requires settings { AreProper settings.now }
     requires delay { IsDelay delay }
-    requires time { IsFrom (neg_ℤ (pos (2 ^ 58))) (pos (2 ^ 58)) time }
+    requires time { IsTime time }
     ensures { listed result ≡ stream_glider ((time -ℤ settings.now.approach) -ℤ delay) }
 {
     glider_cells(Track::Stream, time - settings.approach - delay)
@@ -72,7 +72,7 @@ fn push_gliders(
 ) -> Result<(), NoMemory>
     requires settings { AreProper settings.now }
     requires delays { AllByRecursion IsDelay delays.now }
-    requires time { IsFrom (neg_ℤ (pos (2 ^ 58))) (pos (2 ^ 58)) time }
+    requires time { IsTime time }
     ensures { OnOk result (listed cells.new.items ≡ union (listed cells.old.items) (gliders settings.now delays.now time)) }
 {
     for delay in delays {
@@ -83,27 +83,27 @@ fn push_gliders(
 
 // The generation, from which the next turn's gliders are counted, of the elbow's own frame.
 fn time_of(shift: i64, start: u64) -> i64
-    requires shift { IsFrom (neg_ℤ (pos (2 ^ 52))) (pos (2 ^ 52)) shift }
-    requires start { start ≤ 2 ^ 55 }
+    requires shift { IsShift shift }
+    requires start { start ≤ latest_start }
     ensures time { result ≡ pos 4 *ℤ shift -ℤ pos start }
-    ensures range { IsFrom (neg_ℤ (pos (2 ^ 58))) (pos (2 ^ 58)) result }
+    ensures range { IsTime result }
 {
     4 * shift - start as i64
 }
 
 // The elbow's shift behind a turn.
 fn shift_after(shift: i64, end: TurnEnd) -> i64
-    requires shift { IsFrom (neg_ℤ (pos (2 ^ 52))) (pos (2 ^ 52)) shift }
-    requires end { IsCoordinate (step_of end) }
-    ensures { result ≡ shift +ℤ step_of end }
+    requires shift { IsShift shift }
+    requires end { IsCoordinate (advance_of end) }
+    ensures { result ≡ shift +ℤ advance_of end }
 {
-    shift + step_of(end)
+    shift + advance_of(end)
 }
 
 // When the next turn may start, behind a turn that is over in this generation.
 fn next_start(over: u64, end: TurnEnd) -> u64
-    requires over { over ≤ 2 ^ 56 }
-    requires end { IsCoordinate (step_of end) }
+    requires over { over ≤ latest_end }
+    requires end { IsCoordinate (advance_of end) }
     ensures { result ≡ over + wait end }
 {
     over + wait_after(end)
@@ -113,8 +113,8 @@ fn next_start(over: u64, end: TurnEnd) -> u64
 pub fn push_turn(layout: &mut Layout, settings: &Settings, turn: &RawTurn) -> Result<(), NoMemory>
     requires settings { AreProper settings.now }
     requires turn { (kinds : ℕ) × IsProperTurn kinds turn.now }
-    requires shift { IsFrom (neg_ℤ (pos (2 ^ 52))) (pos (2 ^ 52)) layout.old.shift }
-    requires start { layout.old.start ≤ 2 ^ 55 }
+    requires shift { IsShift layout.old.shift }
+    requires start { layout.old.start ≤ latest_start }
     ensures { OnOk result (IsPushed settings.now turn.now layout.old layout.new) }
 {
     let time = time_of(layout.shift, layout.start);

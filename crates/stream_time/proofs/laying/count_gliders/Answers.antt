@@ -1,6 +1,7 @@
 use Rattle.std.proofs.Common.{◌∙◌, ap, length}
 use Rattle.recipe_turn.specs.Elbows.{raws}
-use Rattle.stream_time.specs.Numbered.{count_of, picked_once}
+use Rattle.stream_time.specs.Numbered.{count_of}
+use Rattle.stream_time.specs.NumberedLaws.{picked_once}
 use Rattle.stream_time.proofs.SoFar.{count_more, count_ends}
 use Rattle.stream_time.proofs.laying.count_gliders.Goals as goal
 

@@ -1,9 +1,11 @@
 use Rattle.std.proofs.Common.{◌∙◌, sym, subst, ap, pos}
+use Rattle.life_plane.specs.PlaneLaws.{union_none}
+use Rattle.life_plane.specs.ListLaws.{each_at}
 use Rattle.life_plane.specs.Plane.{union}
 use Rattle.recipe_turn.specs.Turn.{gliders}
 use Rattle.life_cells.specs.Listed.{listed}
 use Rattle.book_parts.specs.Proper.{IsDelay}
-use Rattle.stream_time.proofs.Gliding.{each_at, delay_read, time_read, own, union_none, one_more, all_there}
+use Rattle.stream_time.proofs.Gliding.{delay_read, time_read, own, one_more, all_there}
 use Rattle.stream_time.proofs.layout.push_gliders.Goals as goal
 
 pub loop-delay-init : goal.loop-delay-init

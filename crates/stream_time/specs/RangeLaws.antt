@@ -1,5 +1,5 @@
--- How far out the cells of a stream lie.
-use Rattle.std.specs.Prelude.{◌≡◌, ◌⊎◌, true, ℕ, ◌+◌, ◌*◌, ◌≤◌, ◌^◌, ℤ, pos, neg_ℤ, ◌+ℤ◌, ◌-ℤ◌, ◌*ℤ◌, ◌≤ℤ◌, List, [], ◌∷◌, length}
+-- The cells of a stream lie near enough.
+use Rattle.std.specs.Prelude.{◌≡◌, ◌⊎◌, true, ℕ, ◌+◌, ◌≤◌, ◌^◌, ℤ, pos, neg_ℤ, ◌+ℤ◌, ◌-ℤ◌, ◌*ℤ◌, ◌≤ℤ◌, List, [], ◌∷◌, length}
 use Rattle.std.specs.List.{AllByRecursion}
 use Rattle.std.proofs.Common.{arith, inl, inr}
 use Rattle.std.proofs.lemmas.Int.{ints}
@@ -12,10 +12,11 @@ use Rattle.book_parts.specs.Proper.{IsDelay, IsProperTurn}
 use Rattle.book_parts.specs.declared.settings.Settings.{Settings}
 use Rattle.book_parts.specs.declared.turn.RawTurn.{RawTurn}
 use Rattle.recipe_turn.specs.Turn.{gliders}
-use Rattle.stream_time.specs.Schedule.{step_of}
+use Rattle.stream_time.specs.Schedule.{advance_of}
 use Rattle.stream_time.specs.Pattern.{stream}
 use Rattle.stream_time.specs.Timing.{timed, wait}
-use Rattle.stream_time.specs.Steps.{step_small, wait_small}
+use Rattle.stream_time.specs.Laying.{IsEarly}
+use Rattle.stream_time.specs.WaitLaws.{advance_small, wait_small}
 
 -- coordinates from -2^57 to 2^57
 pub record IsNear (x y : ℤ) : Type 0 where
@@ -24,7 +25,11 @@ pub record IsNear (x y : ℤ) : Type 0 where
   pub north : neg_ℤ (pos (2 ^ 57)) ≤ℤ y
   pub south : y ≤ℤ pos (2 ^ 57)
 
-glider_near : (settings : Settings) → IsApproach settings.approach → (time d x y : ℤ) → IsFrom (neg_ℤ (pos (2 ^ 56))) (pos (2 ^ 56)) time → IsDelay d → stream_glider ((time -ℤ settings.approach) -ℤ d) x y ≡ true → IsNear x y
+-- a time of gliders, near enough
+abbrev IsNearTime : ℤ → Type 0
+IsNearTime z = IsFrom (neg_ℤ (pos (2 ^ 56))) (pos (2 ^ 56)) z
+
+glider_near : (settings : Settings) → IsApproach settings.approach → (time d x y : ℤ) → IsNearTime time → IsDelay d → stream_glider ((time -ℤ settings.approach) -ℤ d) x y ≡ true → IsNear x y
 glider_near settings a time d x y when from h =
     let r = stream_range ((time -ℤ settings.approach) -ℤ d) x y h in
     let behind = r.behind in
@@ -39,7 +44,7 @@ glider_near settings a time d x y when from h =
     let greatest = a.range.high in
     record { west = omega (arith, ints); east = omega (arith, ints); north = omega (arith, ints); south = omega (arith, ints) }
 
-gliders_near : (settings : Settings) → IsApproach settings.approach → (ds : List ℤ) (time : ℤ) → IsFrom (neg_ℤ (pos (2 ^ 56))) (pos (2 ^ 56)) time → AllByRecursion IsDelay ds → (x y : ℤ) → gliders settings ds time x y ≡ true → IsNear x y
+gliders_near : (settings : Settings) → IsApproach settings.approach → (ds : List ℤ) (time : ℤ) → IsNearTime time → AllByRecursion IsDelay ds → (x y : ℤ) → gliders settings ds time x y ≡ true → IsNear x y
 gliders_near settings a [] time when all x y h = cc
 gliders_near settings a (d ∷ ds) time when all x y h =
     by_part (gliders_near settings a ds time when all.1 x y) (or_cases _ _ h)
@@ -48,26 +53,20 @@ gliders_near settings a (d ∷ ds) time when all x y h =
     by_part rest (inl p) = glider_near settings a time d x y when all.0 p
     by_part rest (inr p) = rest p
 
--- the elbow's shift and the start after so many turns
-pub record IsEarlyAt (turns : ℕ) (shift : ℤ) (start : ℕ) : Type 0 where
-  pub west : neg_ℤ (pos (turns * 2 ^ 30)) ≤ℤ shift
-  pub east : shift ≤ℤ pos (turns * 2 ^ 30)
-  pub late : start ≤ turns * 2 ^ 33
-
-pub early_more : (kinds turns : ℕ) (shift : ℤ) (start : ℕ) (turn : RawTurn) → IsProperTurn kinds turn → IsEarlyAt turns shift start → IsEarlyAt (turns + 1) (shift +ℤ step_of turn.end) ((start + turn.n) + wait turn.end)
+pub early_more : (kinds turns : ℕ) (shift : ℤ) (start : ℕ) (turn : RawTurn) → IsProperTurn kinds turn → IsEarly turns shift start → IsEarly (turns + 1) (shift +ℤ advance_of turn.end) ((start + turn.n) + wait turn.end)
 early_more kinds turns shift start turn proper e =
-    let step = step_small kinds turn.end proper.leaves in
-    let low = step.low in
-    let high = step.high in
+    let advance = advance_small kinds turn.end proper.leaves in
+    let low = advance.low in
+    let high = advance.high in
     let short = proper.short in
-    let waits = wait_small (step_of turn.end) high in
+    let waits = wait_small (advance_of turn.end) high in
     let west = e.west in
     let east = e.east in
     let late = e.late in
     record { west = omega (arith, ints); east = omega (arith, ints); late = omega arith }
 
 -- the time of a turn's gliders
-time_near : (turns : ℕ) (shift : ℤ) (start : ℕ) → turns ≤ 2 ^ 22 → IsEarlyAt turns shift start → IsFrom (neg_ℤ (pos (2 ^ 56))) (pos (2 ^ 56)) (pos 4 *ℤ shift -ℤ pos start)
+time_near : (turns : ℕ) (shift : ℤ) (start : ℕ) → turns ≤ 2 ^ 22 → IsEarly turns shift start → IsNearTime (pos 4 *ℤ shift -ℤ pos start)
 time_near turns shift start few e =
     let west = e.west in
     let east = e.east in
@@ -75,14 +74,14 @@ time_near turns shift start few e =
     record { low = omega (arith, ints); high = omega (arith, ints) }
 
 -- the gliders of a list of turns, after so many
-pub stream_near : (settings : Settings) → IsApproach settings.approach → (kinds : ℕ) (turns : List RawTurn) → AllByRecursion (IsProperTurn kinds) turns → (before : ℕ) (shift : ℤ) (start : ℕ) → before + length turns ≤ 2 ^ 22 → IsEarlyAt before shift start →
+pub stream_near : (settings : Settings) → IsApproach settings.approach → (kinds : ℕ) (turns : List RawTurn) → AllByRecursion (IsProperTurn kinds) turns → (before : ℕ) (shift : ℤ) (start : ℕ) → before + length turns ≤ 2 ^ 22 → IsEarly before shift start →
     (x y : ℤ) → stream settings (timed turns shift start) x y ≡ true → IsNear x y
 stream_near settings a kinds [] all before shift start few e x y h = cc
 stream_near settings a kinds (turn ∷ turns) all before shift start few e x y h =
-    by_part (stream_near settings a kinds turns all.1 (before + 1) (shift +ℤ step_of turn.end) ((start + turn.n) + wait turn.end) (omega arith) (early_more kinds before shift start turn all.0 e) x y) (or_cases _ _ h)
+    by_part (stream_near settings a kinds turns all.1 (before + 1) (shift +ℤ advance_of turn.end) ((start + turn.n) + wait turn.end) (omega arith) (early_more kinds before shift start turn all.0 e) x y) (or_cases _ _ h)
   where
-    by_part : (stream settings (timed turns (shift +ℤ step_of turn.end) ((start + turn.n) + wait turn.end)) x y ≡ true → IsNear x y) →
-        (gliders settings turn.delays (pos 4 *ℤ shift -ℤ pos start) x y ≡ true) ⊎ (stream settings (timed turns (shift +ℤ step_of turn.end) ((start + turn.n) + wait turn.end)) x y ≡ true) → IsNear x y
+    by_part : (stream settings (timed turns (shift +ℤ advance_of turn.end) ((start + turn.n) + wait turn.end)) x y ≡ true → IsNear x y) →
+        (gliders settings turn.delays (pos 4 *ℤ shift -ℤ pos start) x y ≡ true) ⊎ (stream settings (timed turns (shift +ℤ advance_of turn.end) ((start + turn.n) + wait turn.end)) x y ≡ true) → IsNear x y
     by_part rest (inl p) = gliders_near settings a turn.delays (pos 4 *ℤ shift -ℤ pos start) (time_near before shift start (omega arith) e) all.0.delays x y p
     by_part rest (inr p) = rest p
 

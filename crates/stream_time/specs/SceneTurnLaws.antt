@@ -1,10 +1,12 @@
--- A turn of a book as the composition theorem sees it.
-use Rattle.std.specs.Prelude.{◌≡◌, ◌⊎◌, Bool, true, false, ◌||◌, ℕ, ◌+◌, ◌≤◌, ℤ, pos, negsuc, ◌+ℤ◌, ◌-ℤ◌, ◌*ℤ◌, ◌≤ℤ◌, ◌<ℤ◌, List, [], ◌∷◌, map, unsigned_abs}
+-- A sound turn of a book is one for the composition theorem.
+use Rattle.std.specs.Prelude.{◌≡◌, ◌⊎◌, true, ℕ, ◌+◌, ◌≤◌, ℤ, pos, negsuc, ◌+ℤ◌, ◌-ℤ◌, ◌*ℤ◌, ◌≤ℤ◌, ◌<ℤ◌, List, [], ◌∷◌, map, unsigned_abs}
 use Rattle.std.proofs.Common.{refl, sym, ap, subst, ◌∙◌, arith, inl, inr}
 use Rattle.std.proofs.lemmas.Int.{ints}
 use Rattle.std.specs.Int.{int_div_euclid}
-use Rattle.life_plane.specs.Plane.{Plane, nothing, union, shift, run, step, same_plane}
-use Rattle.life_plane.specs.Tracks.{stream_glider}
+use Rattle.life_plane.specs.PlaneLaws.{union_none}
+use Rattle.life_scene.specs.StreamLaws.{step_nothing}
+use Rattle.life_plane.specs.Plane.{Plane, nothing, union, shift, run}
+use Rattle.life_plane.specs.Tracks.{gap, stream_glider}
 use Rattle.life_plane.specs.Strips.{VAtLeast}
 use Rattle.life_scene.specs.Stream.{coming, Spaced, Before}
 use Rattle.life_scene.specs.Turns as scene
@@ -14,47 +16,13 @@ use Rattle.book_parts.specs.declared.kind.RawKind.{RawKind}
 use Rattle.book_parts.specs.declared.turn.RawTurn.{RawTurn}
 use Rattle.book_parts.specs.declared.turn.TurnEnd.{TurnEnd}
 use Rattle.book_parts.specs.declared.turn.TurnEnd.TheVariants.{Close, Move, Emit}
-use Rattle.book_parts.specs.Limits.{AreProper, IsApproach}
+use Rattle.book_parts.specs.Limits.{AreProper}
 use Rattle.recipe_turn.specs.Kind.{IsValidKind}
 use Rattle.recipe_turn.specs.Turn.{IsSound, AreSpaced, AreSpacedFrom, gliders, turn_start, turn_end, IsInFront}
-use Rattle.stream_time.specs.Schedule.{Timed, step_of}
+use Rattle.stream_time.specs.Schedule.{Timed, advance_of}
+use Rattle.stream_time.specs.Pattern.{turn_gliders}
 use Rattle.book_parts.specs.Kinds.{kind_plane, next_plane}
-
--- half of the approach, which is a multiple of 4
-pub record Half (settings : Settings) : Type 0 where
-  pub half : ℤ
-  pub is : settings.approach ≡ pos 2 *ℤ half
-
-pub half_approach : (settings : Settings) → IsApproach settings.approach → Half settings
-half_approach settings a = record { half = pos 2 *ℤ a.quarters; is = let m = a.multiple in omega (arith, ints) }
-
--- what all turns of a book keep to
-abbrev pub rules : (settings : Settings) → AreProper settings → scene.Rules
-rules settings p = record {
-  half = (half_approach settings p.approach).half;
-  wall = settings.wall;
-  reach = settings.reach;
-  wide = p.wall.low;
-}
-
-abbrev pub throw_of : TurnEnd → scene.Throw
-throw_of Close = Keeps
-throw_of (Move kind step) = Keeps
-throw_of (Emit kind step lane j) = Throws lane j
-
--- the turn in its own frame
-abbrev pub framed : List RawKind → RawTurn → scene.Turn
-framed kinds turn = record {
-  n = turn.n;
-  delays = map unsigned_abs turn.delays;
-  kind = kind_plane kinds turn.kind;
-  next = next_plane kinds turn.end;
-  step = step_of turn.end;
-  throw = throw_of turn.end;
-}
-
-abbrev pub placed : List RawKind → Timed → scene.Timed
-placed kinds m = record { turn = framed kinds m.turn; start = m.start; at = m.shift }
+use Rattle.stream_time.specs.SceneTurns.{Half, half_approach, rules, throw_of, framed, placed}
 
 -- a delay that isn't negative
 pub natural : (z : ℤ) → pos 0 ≤ℤ z → z ≡ pos (unsigned_abs z)
@@ -62,17 +30,17 @@ natural (pos n) h = refl
 natural (negsuc n) h = absurd (omega (arith, ints))
 
 -- spaced delays as numbers from low on
-pub spaced : (before : ℤ) (ds : List ℤ) (n : ℤ) (low : ℕ) → pos low ≡ before +ℤ pos 20 → AreSpacedFrom before ds n → Spaced low (map unsigned_abs ds)
+pub spaced : (before : ℤ) (ds : List ℤ) (n : ℤ) (low : ℕ) → pos low ≡ before +ℤ pos gap → AreSpacedFrom before ds n → Spaced low (map unsigned_abs ds)
 spaced before [] n low e h = tt
 spaced before (d ∷ ds) n low e h =
     let first = h.0 in
     let is : d ≡ pos (unsigned_abs d) = natural d (omega (arith, ints)) in
-    let rest : Spaced (unsigned_abs d + 20) (map unsigned_abs ds) = spaced d ds n (unsigned_abs d + 20) (omega (arith, ints)) h.1 in
+    let rest : Spaced (unsigned_abs d + gap) (map unsigned_abs ds) = spaced d ds n (unsigned_abs d + gap) (omega (arith, ints)) h.1 in
     (omega (arith, ints), rest)
 
--- each delay of a spaced list is at least 20 before n, and so is the one before it
+-- each delay of a spaced list is at least a gap before n, and so is the one before it
 pub record Early (before n : ℤ) (m : ℕ) (ds : List ℤ) : Type 0 where
-  pub room : (before +ℤ pos 20) ≤ℤ n
+  pub room : (before +ℤ pos gap) ≤ℤ n
   pub each : Before m (map unsigned_abs ds)
 
 pub early : (before : ℤ) (ds : List ℤ) (m : ℕ) → pos 0 ≤ℤ before → AreSpacedFrom before ds (pos m) → Early before (pos m) m ds
@@ -104,9 +72,9 @@ gaps_of : (ds : List ℤ) (n : ℤ) → AreSpaced ds n → Spaced 0 (map unsigne
 gaps_of [] n h = absurd h
 gaps_of (d ∷ ds) n h =
     let zero_delay : unsigned_abs d ≡ 0 = ap unsigned_abs h.0 in
-    (omega arith, subst (λ k. Spaced (k + 20) (map unsigned_abs ds)) (sym zero_delay) (spaced d ds n 20 (let e = h.0 in omega (arith, ints)) h.1))
+    (omega arith, subst (λ k. Spaced (k + gap) (map unsigned_abs ds)) (sym zero_delay) (spaced d ds n gap (let e = h.0 in omega (arith, ints)) h.1))
 
-early_of : (ds : List ℤ) (m : ℕ) → AreSpaced ds (pos m) → (20 ≤ m) × Before m (map unsigned_abs ds)
+early_of : (ds : List ℤ) (m : ℕ) → AreSpaced ds (pos m) → (gap ≤ m) × Before m (map unsigned_abs ds)
 early_of [] m h = absurd h
 early_of (d ∷ ds) m h =
     let e = h.0 in
@@ -115,16 +83,9 @@ early_of (d ∷ ds) m h =
     let zero_delay : unsigned_abs d ≡ 0 = ap unsigned_abs h.0 in
     (omega (arith, ints), (omega (arith, ints), rest.each))
 
-or-false : (s : Plane) → union s nothing ≡ s
-or-false s = same_plane _ _ (λ x y. keep (s x y))
-  where
-    keep : (a : Bool) → (a || false) ≡ a
-    keep true = refl
-    keep false = refl
-
-ends_of : (e : TurnEnd) (kinds : List RawKind) → turn_end e (next_plane kinds e) ≡ union (shift (step_of e) (step_of e) (next_plane kinds e)) (scene.thrown (throw_of e))
+ends_of : (e : TurnEnd) (kinds : List RawKind) → turn_end e (next_plane kinds e) ≡ union (shift (advance_of e) (advance_of e) (next_plane kinds e)) (scene.thrown (throw_of e))
 ends_of Close kinds = refl
-ends_of (Move kind a) kinds = sym (or-false _)
+ends_of (Move kind a) kinds = sym (union_none _)
 ends_of (Emit kind a lane j) kinds = refl
 
 -- floor(j/4) is at most j/4
@@ -180,10 +141,6 @@ valid_kind settings p s v =
       tail = λ x y h. let t = (v.place.each x y h).tail in record { v = omega (arith, ints) };
     }
 
-step_nothing : step nothing ≡ nothing
-unfolding step
-step_nothing = refl
-
 -- nothing is one too
 pub no_kind : (settings : Settings) (p : AreProper settings) → scene.IsKind (rules settings p) nothing
 no_kind settings p = record {
@@ -191,3 +148,11 @@ no_kind settings p = record {
   wall = λ x y h. cc;
   tail = λ x y h. cc;
 }
+
+-- the gliders of a turn at generation 0
+pub gliders_at_first : (settings : Settings) (p : AreProper settings) (kinds : List RawKind) (m : Timed) → AreSpaced m.turn.delays (pos m.turn.n) →
+    scene.gliders (rules settings p) (placed kinds m) 0 ≡ turn_gliders settings m
+gliders_at_first settings p kinds m spaced =
+    let is = (half_approach settings p.approach).is in
+    sym (spaced_gliders settings m.turn.delays (pos m.turn.n) (pos 4 *ℤ m.shift -ℤ pos m.start) spaced
+    ∙ ap (λ z. coming z (map unsigned_abs m.turn.delays)) (omega (arith, ints)))

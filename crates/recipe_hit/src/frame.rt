@@ -2,7 +2,7 @@
 
 use life_cells::Bounds;
 
-/// A hit at the hand, as a book's frame sees it.
+/// Where a hit takes place, at the hand's own place.
 #[derive(Clone, Copy, Debug, PartialEq, Eq)]
 pub struct HitFrame {
     /// The lane of its glider.
