@@ -5,12 +5,11 @@ use Rattle.std.specs.List.{All}
 use Rattle.std.proofs.lemmas.Int.{ints}
 use Rattle.life_cells.specs.declared.cell.Cell.{Cell}
 use Rattle.life_cells.specs.Cells.{IsRising, Cells, in_order, alive, from_list}
-use Rattle.life_cells.specs.Laws.{alive-from_list}
+use Rattle.life_cells.specs.Laws.{alive-from_list, place_listed, alive_of_order}
 use Rattle.life_cells.specs.Listed.{listed, times}
 use Rattle.life_cells.specs.Moved.{moved, FitsMoved}
 use Rattle.life_cells.specs.Near.{near_row, near_list, block}
 use Rattle.life_cells.specs.Boxes.{IsInRange, CanMove}
-use Rattle.life_cells.proofs.Places.{place_listed, alive_of_order}
 use Rattle.life_cells.specs.MovedLaws.{rising-moved, listed-moved}
 use Rattle.life_cells.proofs.Times.{times-append, times-moved, times-rising}
 use Rattle.life_plane.specs.Plane.{Plane, one_if, shift, same_plane}

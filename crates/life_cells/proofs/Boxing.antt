@@ -1,17 +1,17 @@
 -- The least box of one cell more.
-use Rattle.std.proofs.Common.{◌≡◌, ℕ, ◌+◌, ◌-◌, ◌<◌, ◌≤◌, true, false, Bool, List, [], ◌∷◌, length, take, drop, get_or, refl, sym, ap, subst, ◌∙◌, arith, inl, inr}
+use Rattle.std.proofs.Common.{◌≡◌, ℕ, ◌+◌, ◌-◌, ◌<◌, ◌≤◌, List, [], ◌∷◌, length, take, drop, get_or, refl, sym, ap, subst, ◌∙◌, arith, inl, inr}
 use Rattle.std.specs.Prelude.{◌||◌, Option, Some, None, IfSome, IfNone}
 use Rattle.std.specs.Int.{int_min, int_max}
 use Rattle.std.proofs.lemmas.Int.{ints, clamps}
 use Rattle.std.proofs.lemmas.List.{take_all}
 use Rattle.std.proofs.lemmas.List.Folds.{list_any_more}
-use Rattle.std.proofs.lemmas.Bool.{or_cases}
+use Rattle.std.proofs.lemmas.Bool.{or_cases, or_right, or_left}
+use Rattle.std.proofs.Math.Bool.{or-false, or_assoc}
 use Rattle.life_cells.specs.declared.cell.Cell.{Cell}
 use Rattle.life_cells.specs.declared.bounds.Bounds.{Bounds}
 use Rattle.life_cells.specs.Boxes.{IsLeastBox}
 use Rattle.life_cells.specs.Cells.{cell, Cells, in_order, alive, empty}
-use Rattle.life_cells.specs.Laws.{empty_of_none}
-use Rattle.life_cells.proofs.Places.{alive_of_order}
+use Rattle.life_cells.specs.Laws.{empty_of_none, alive_of_order}
 use Rattle.life_cells.specs.Listed.{same_cell, listed}
 use Rattle.life_cells.specs.Order.{same_cell_is, same_cell-itself}
 use Rattle.life_plane.specs.Plane.{Plane, union, same_plane}
@@ -27,13 +27,6 @@ box_with b c = record { left = int_min b.left c.x; top = int_min b.top c.y; righ
 -- one live cell
 abbrev pub lone : Cell → Plane
 lone c x y = same_cell (cell x y) c
-
-in_right : (a b : Bool) → b ≡ true → (a || b) ≡ true
-in_right true b h = refl
-in_right false b h = h
-
-in_left : (a b : Bool) → a ≡ true → (a || b) ≡ true
-in_left a b h = ap (λ c. c || b) h
 
 pub least_of_one : (c : Cell) → IsLeastBox (box_at c) (lone c)
 least_of_one c = record {
@@ -56,22 +49,14 @@ least_of_more b s c h = record {
     ];
   };
   least = λ other k.
-      let w = h.least other (record { each = λ x y l. k.each x y (in_left (s x y) (lone c x y) l) }) in
-      let i = k.each c.x c.y (in_right (s c.x c.y) (lone c c.x c.y) (same_cell-itself c)) in
+      let w = h.least other (record { each = λ x y l. k.each x y (or_left (s x y) (lone c x y) l) }) in
+      let i = k.each c.x c.y (or_right (s c.x c.y) (lone c c.x c.y) (same_cell-itself c)) in
       record { left = omega (arith, ints, clamps, w.left, i.right_of_left); top = omega (arith, ints, clamps, w.top, i.below_top); right = omega (arith, ints, clamps, w.right, i.left_of_right); bottom = omega (arith, ints, clamps, w.bottom, i.above_bottom) };
-  lives = (h.lives.0, (h.lives.1.0, in_left (s h.lives.0 h.lives.1.0) (lone c h.lives.0 h.lives.1.0) h.lives.1.1));
+  lives = (h.lives.0, (h.lives.1.0, or_left (s h.lives.0 h.lives.1.0) (lone c h.lives.0 h.lives.1.0) h.lives.1.1));
 }
 
-or_assoc : (a b c : Bool) → ((a || b) || c) ≡ (a || (b || c))
-or_assoc true b c = refl
-or_assoc false b c = refl
-
-or_false : (a : Bool) → (a || false) ≡ a
-or_false true = refl
-or_false false = refl
-
 pub union_none : (s : Plane) → union s (listed []) ≡ s
-union_none s = same_plane _ _ (λ x y. or_false (s x y))
+union_none s = same_plane _ _ (λ x y. or-false (s x y))
 
 -- a loop's step
 pub union_more : (s : Plane) (cs : List Cell) (i : ℕ) (d : Cell) → i < length cs → union s (listed (take (i + 1) cs)) ≡ union (union s (listed (take i cs))) (lone (get_or cs i d))

@@ -1,6 +1,6 @@
 -- The lesser and the greater of two numbers, as a cast shows them.
-use Rattle.std.proofs.Common.{◌≡◌, false, w64, to_z, of_z, arith, ap, sym, ◌∙◌}
-use Rattle.std.specs.Prelude.{ℤ, pos, ◌+ℤ◌, ◌-ℤ◌, int_lt, FitsSigned}
+use Rattle.std.proofs.Common.{◌≡◌, w64, to_z, of_z, arith, ap, sym, ◌∙◌}
+use Rattle.std.specs.Prelude.{ℤ, pos, ◌+ℤ◌, ◌-ℤ◌, FitsSigned}
 use Rattle.std.specs.Int.{int_min, int_max, w128}
 use Rattle.std.proofs.lemmas.Int.{ints, to_z-of_z}
 
@@ -34,14 +34,11 @@ wide_sum a b r s f g d e = (λ i. to_z w128 (of_z w128 (wide_is a r f d i +ℤ w
 two_fits : (a : ℤ) → FitsSigned w64 a → FitsSigned w128 (a -ℤ pos 2)
 two_fits a f = omega (arith, ints)
 
-two_more_fits : (a : ℤ) → FitsSigned w64 a → FitsSigned w128 (a +ℤ pos 2)
-two_more_fits a f = omega (arith, ints)
+three_more_fits : (a : ℤ) → FitsSigned w64 a → FitsSigned w128 (a +ℤ pos 3)
+three_more_fits a f = omega (arith, ints)
 
 pub wide_less_two : (a r : ℤ) → FitsSigned w64 a → r ≡ to_z w64 (of_z w64 a) → to_z w128 (of_z w128 (to_z w128 (of_z w128 r) -ℤ pos 2)) ≡ a -ℤ pos 2
 wide_less_two a r f e = ap (λ z. to_z w128 (of_z w128 (z -ℤ pos 2))) (wide_is a r f e) ∙ to_z-of_z w128 (a -ℤ pos 2) (two_fits a f)
 
-pub wide_and_two : (a r : ℤ) → FitsSigned w64 a → r ≡ to_z w64 (of_z w64 a) → to_z w128 (of_z w128 (to_z w128 (of_z w128 r) +ℤ pos 2)) ≡ a +ℤ pos 2
-wide_and_two a r f e = ap (λ z. to_z w128 (of_z w128 (z +ℤ pos 2))) (wide_is a r f e) ∙ to_z-of_z w128 (a +ℤ pos 2) (two_more_fits a f)
-
-pub level : (a b : ℤ) → int_lt a b ≡ false → int_lt b a ≡ false → a ≡ b
-level a b h k = grind (arith, ints)
+pub wide_and_three : (a r : ℤ) → FitsSigned w64 a → r ≡ to_z w64 (of_z w64 a) → to_z w128 (of_z w128 (to_z w128 (of_z w128 r) +ℤ pos 3)) ≡ a +ℤ pos 3
+wide_and_three a r f e = ap (λ z. to_z w128 (of_z w128 (z +ℤ pos 3))) (wide_is a r f e) ∙ to_z-of_z w128 (a +ℤ pos 3) (three_more_fits a f)

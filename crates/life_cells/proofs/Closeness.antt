@@ -1,42 +1,26 @@
 -- Cells close to a place, by a search in a list that rises.
-use Rattle.std.proofs.Common.{◌≡◌, ℕ, ◌+◌, ◌<◌, ◌≤◌, Bool, true, false, cond, List, length, take, get_or, refl, sym, ap, subst, ◌∙◌, arith, inl, inr, ◌⊎◌}
-use Rattle.std.specs.Prelude.{ℤ, pos, negsuc, ◌+ℤ◌, ◌-ℤ◌, ◌≤ℤ◌, ◌<ℤ◌, ◌||◌, int_lt, int_le}
-use lib.Dec.{T}
+use Rattle.life_cells.specs.Laws.{place_listed, alive_of_order}
+use Rattle.std.proofs.Common.{◌≡◌, ℕ, zero, suc, ◌+◌, ◌-◌, ◌<◌, ◌≤◌, Bool, true, false, List, [], ◌∷◌, length, take, drop, get_or, refl, sym, ap, subst, ◌∙◌, arith, inl, inr, w64, to_z, of_z}
+use Rattle.std.specs.Prelude.{◌==◌, ℤ, pos, negsuc, ◌+ℤ◌, ◌-ℤ◌, ◌≤ℤ◌, ◌<ℤ◌}
 use Rattle.std.specs.declared.cmp.Ordering.{Ordering}
 use Rattle.std.specs.declared.cmp.Ordering.TheVariants.{Less, Equal, Greater}
-use Rattle.std.specs.Ordering.{is_lt, int_cmp, ordering_then, ordering_reverse}
-use Rattle.std.specs.Cmp.{int_cmp_is}
-use Rattle.std.specs.List.{AllWithin}
+use Rattle.std.specs.Ordering.{is_lt}
+use Rattle.std.specs.List.{AllWithin, filter}
 use Rattle.std.proofs.lemmas.Int.{ints}
-use Rattle.std.proofs.lemmas.Bool.{cases_lt, or_cases}
-use Rattle.std.proofs.lemmas.List.{get_or_default}
+use Rattle.std.proofs.lemmas.Bool.{cases_lt, or_cases, false_from_ne_true, eqb-true}
+use Rattle.std.proofs.lemmas.List.{get_or_default, nil_from_length}
+use lib.Signed.{lt_z}
 use Rattle.std.proofs.lemmas.List.Folds.{list_any_more}
 use Rattle.std.proofs.lemmas.Map.Keys.{Less-from_sorted}
-use Rattle.std.proofs.lemmas.Option.{slice_get_within, get_or_from_slice_get}
 use Rattle.life_cells.specs.declared.cell.Cell.{Cell}
 use Rattle.life_cells.specs.Cells.{cell, cell_cmp, IsRising, Cells, in_order, alive}
-use Rattle.life_cells.specs.Close.{Close, CloseInRow, IsInRow, IsFirstFrom}
+use Rattle.life_cells.specs.Close.{Close, CloseInRow, is_close_in_row, IsFirstFrom}
+use Rattle.life_cells.specs.CloseLaws.{IsCloseInRow, close_in_row_is, close_in_row_holds, some_close, close_of_some}
 use Rattle.life_cells.specs.Listed.{same_cell, listed}
-use Rattle.life_cells.specs.Laws.{place_of_listed}
 use Rattle.life_cells.specs.Order.{cells_total, same_cell_is, comes_before, before_by_row, before_in_row}
-use Rattle.life_cells.proofs.Places.{place_listed, alive_of_order}
 use Rattle.life_plane.specs.Apart.{Apart}
-
--- ---- one test
-
-pub earlier_row : (c d : Cell) → c.y <ℤ d.y → true ≡ is_lt (cell_cmp c d)
-earlier_row c d h = ap is_lt (sym (before_by_row c d h))
-
-pub later_row : (c d : Cell) → d.y <ℤ c.y → false ≡ is_lt (cell_cmp c d)
-later_row c d h = ap is_lt (sym (cells_total.antisymm c d ∙ ap ordering_reverse (before_by_row d c h)))
-
-lt_cases : (m n : Bool) → is_lt (cond m Less (cond n Greater Equal)) ≡ m
-lt_cases true n = refl
-lt_cases false true = refl
-lt_cases false false = refl
-
-pub same_row : (c d : Cell) → c.y ≡ d.y → int_lt c.x d.x ≡ is_lt (cell_cmp c d)
-same_row c d h = sym (lt_cases (int_lt c.x d.x) (int_lt d.x c.x)) ∙ ap (λ o. is_lt (ordering_then o (int_cmp c.x d.x))) (int_cmp_is c.y d.y Equal h)
+use Rattle.life_plane.specs.NumberLaws.{cases_below, lt_from_test, test_from_lt}
+use Rattle.life_plane.specs.Plane.{Plane}
 
 -- ---- halves
 
@@ -96,172 +80,125 @@ halved_out cs c low high h le = record {
 
 -- ---- one row
 
--- what a cell that does not come before c has in its row
-not_left : (p c : Cell) → is_lt (cell_cmp p c) ≡ false → p.y ≡ c.y → c.x ≤ℤ p.x
-not_left p c h e = elim (either_way p.x c.x) [
-  | inl l ↦ let k = before_in_row p c e l in let t : is_lt (cell_cmp p c) ≡ true = ap is_lt k in absurd (cc)
-  | inr l ↦ l
+not_before : (a b : Cell) → is_lt (cell_cmp a b) ≡ false → cell_cmp a b ≡ Less → ⊥
+not_before a b h k = let e : is_lt (cell_cmp a b) ≡ true = ap is_lt k in cc
+
+-- a cell from the first of the row's places up to the one behind its last is close
+within_row : (x y : ℤ) (c : Cell) → is_lt (cell_cmp c (cell (x -ℤ pos 2) y)) ≡ false → cell_cmp c (cell (x +ℤ pos 3) y) ≡ Less → IsCloseInRow x y c
+within_row x y c from to = elim (comes_before c (cell (x +ℤ pos 3) y) to) [
+  | inl above ↦ absurd (not_before c (cell (x -ℤ pos 2) y) from (before_by_row c (cell (x -ℤ pos 2) y) above))
+  | inr level ↦ elim (cases_below c.x (x -ℤ pos 2)) [
+    | inl left ↦ absurd (not_before c (cell (x -ℤ pos 2) y) from (before_in_row c (cell (x -ℤ pos 2) y) level.0 left))
+    | inr low ↦ let high = level.1 in record { left = low; right = omega (arith, ints); row = level.0 }
+  ]
 ]
-  where
-    either_way : (a b : ℤ) → (a <ℤ b) ⊎ (b ≤ℤ a)
-    either_way a b = grind (arith, ints)
 
-not_above : (p c : Cell) → is_lt (cell_cmp p c) ≡ false → c.y ≤ℤ p.y
-not_above p c h = elim (either_way p.y c.y) [
-  | inl l ↦ let k = before_by_row p c l in let t : is_lt (cell_cmp p c) ≡ true = ap is_lt k in absurd (cc)
-  | inr l ↦ l
+-- one that comes before them is not
+before_row : (x y : ℤ) (c : Cell) → cell_cmp c (cell (x -ℤ pos 2) y) ≡ Less → IsCloseInRow x y c → ⊥
+before_row x y c before h = let low = h.left in let row = h.row in elim (comes_before c (cell (x -ℤ pos 2) y) before) [
+  | inl above ↦ omega (arith, ints)
+  | inr level ↦ let left = level.1 in omega (arith, ints)
 ]
-  where
-    either_way : (a b : ℤ) → (a <ℤ b) ⊎ (b ≤ℤ a)
-    either_way a b = grind (arith, ints)
 
--- the first cell from there on is close
-pub row_close : (cs : List Cell) (x y : ℤ) (i : ℕ) (z : Cell) → i < length cs → IsFirstFrom cs (cell (x -ℤ pos 2) y) i → IsInRow (get_or cs i z) x y → CloseInRow (listed cs) x y
-row_close cs x y i z lt first is =
-    let p = get_or cs i z in
-    let low = not_left p (cell (x -ℤ pos 2) y) (first.from i z (omega arith) lt) is.row in
-    record {
-      a = p.x;
-      lives = ap (λ b. listed cs p.x b) (sym is.row) ∙ place_listed cs i z lt;
-      left = omega (arith, ints);
-      right = is.right;
-    }
+-- nor is one behind them
+after_row : (x y : ℤ) (c : Cell) → is_lt (cell_cmp c (cell (x +ℤ pos 3) y)) ≡ false → IsCloseInRow x y c → ⊥
+after_row x y c from h = let high = h.right in not_before c (cell (x +ℤ pos 3) y) from (before_in_row c (cell (x +ℤ pos 3) y) h.row (omega (arith, ints)))
 
--- where a cell is close, the first cell from there on is
-pub record IsFound (cs : List Cell) (x y : ℤ) (i : ℕ) (z : Cell) : Type 0 where
-  pub within : i < length cs
-  pub is : IsInRow (get_or cs i z) x y
+-- where a test fails of the items before a part, holds within it and fails behind it, the part is what passes
+part_passes : (p : Cell → Bool) (cs : List Cell) (from n : ℕ) → from + n ≤ length cs → AllWithin (λ c. p c ≡ false) cs 0 from → AllWithin (λ c. p c ≡ true) cs from (from + n)
+    → AllWithin (λ c. p c ≡ false) cs (from + n) (length cs) → take n (drop from cs) ≡ filter p cs
+part_passes p [] zero zero le before in' after = refl
+part_passes p [] zero (suc n) le before in' after = absurd (omega arith)
+part_passes p [] (suc from) n le before in' after = absurd (omega arith)
+part_passes p (c ∷ cs) zero zero le before in' after =
+    let rest = part_passes p cs zero zero (omega arith) (λ k d _ lt. absurd (omega arith)) (λ k d low lt. absurd (omega arith)) (λ k d _ lt. after (suc k) d (omega arith) (omega arith)) in
+    rw (after 0 c (omega arith) (omega arith)) rest
+part_passes p (c ∷ cs) zero (suc n) le before in' after =
+    let rest = part_passes p cs zero n (omega arith) (λ k d _ lt. absurd (omega arith)) (λ k d _ lt. in' (suc k) d (omega arith) (omega arith)) (λ k d low lt. after (suc k) d (omega arith) (omega arith)) in
+    rw (in' 0 c (omega arith) (omega arith)) (ap (λ ds. c ∷ ds) rest)
+part_passes p (c ∷ cs) (suc from) n le before in' after =
+    let rest = part_passes p cs from n (omega arith) (λ k d _ lt. before (suc k) d (omega arith) (omega arith)) (λ k d low lt. in' (suc k) d (omega arith) (omega arith)) (λ k d low lt. after (suc k) d (omega arith) (omega arith)) in
+    rw (before 0 c (omega arith) (omega arith)) rest
 
-found_at : (cs : List Cell) (x y a : ℤ) (k i : ℕ) (z : Cell) → IsRising cs → x ≤ℤ (a +ℤ pos 2) → a ≤ℤ (x +ℤ pos 2) → IsFirstFrom cs (cell (x -ℤ pos 2) y) i
-    → k < length cs → get_or cs k z ≡ cell a y → (i < k) ⊎ ((i ≡ k) ⊎ (k < i)) → IsFound cs x y i z
-found_at cs x y a k i z rises left right first lt is (inl less) =
-    let p = get_or cs i z in
-    let below : cell_cmp p (cell a y) ≡ Less = ap (cell_cmp p) (sym is) ∙ Less-from_sorted cell_cmp cs i k z rises less lt in
-    let high = not_above p (cell (x -ℤ pos 2) y) (first.from i z (omega arith) (omega arith)) in
-    elim (comes_before p (cell a y) below) [
-      | inl higher ↦ absurd (omega (arith, ints))
-      | inr level ↦ let col = level.1 in record { within = omega arith; is = record { row = level.0; right = omega (arith, ints) } }
-    ]
-found_at cs x y a k i z rises left right first lt is (inr (inl e)) =
-    let here : get_or cs i z ≡ cell a y = ap (λ m. get_or cs m z) e ∙ is in
-    let at_x : (get_or cs i z).x ≡ a = ap (λ (d : Cell). d.x) here in
-    record { within = omega arith; is = record { row = ap (λ (d : Cell). d.y) here; right = omega (arith, ints) } }
-found_at cs x y a k i z rises left right first lt is (inr (inr more)) =
-    let below : cell_cmp (cell a y) (cell (x -ℤ pos 2) y) ≡ Less = ap (λ d. cell_cmp d (cell (x -ℤ pos 2) y)) (sym is) ∙ first.before k z (omega arith) more in
-    elim (comes_before (cell a y) (cell (x -ℤ pos 2) y) below) [
-      | inl higher ↦ absurd (omega (arith, ints))
-      | inr level ↦ let col = level.1 in absurd (omega (arith, ints))
-    ]
+-- the places of two cells, the one before the other
+pub places_rise : (cs : List Cell) (c d : Cell) (i j : ℕ) → cell_cmp c d ≡ Less → IsFirstFrom cs c i → IsFirstFrom cs d j → i ≤ j
+places_rise cs c d i j less h k = elim (cases_lt j i) [
+  | inl lt ↦ let within = h.within in absurd (not_before (get_or cs j c) d (k.from j c (omega arith) (omega arith)) (cells_total.trans (get_or cs j c) c d (h.before j c (omega arith) lt) less))
+  | inr le ↦ le
+]
 
-pub row_found : (cs : List Cell) (x y : ℤ) (i : ℕ) (z : Cell) → IsRising cs → IsFirstFrom cs (cell (x -ℤ pos 2) y) i → CloseInRow (listed cs) x y → IsFound cs x y i z
-row_found cs x y i z rises first close =
-    let there = place_of_listed cs close.a y close.lives in
-    let k = there.0 in
-    found_at cs x y close.a k i z rises close.left close.right first (slice_get_within cs k (cell close.a y) there.1) (get_or_from_slice_get cs k (cell close.a y) z there.1) (order i k)
-  where
-    order : (m n : ℕ) → (m < n) ⊎ ((m ≡ n) ⊎ (n < m))
-    order m n = grind arith
+-- the part of a list between a row's ends, which is what is close
+pub record IsRowPart (cs : List Cell) (x y : ℤ) (from to : ℕ) : Type 0 where
+  pub first : IsFirstFrom cs (cell (x -ℤ pos 2) y) from
+  pub last : IsFirstFrom cs (cell (x +ℤ pos 3) y) to
+
+pub row_rises : (cs : List Cell) (x y : ℤ) (from to : ℕ) → IsRowPart cs x y from to → from ≤ to
+row_rises cs x y from to h = places_rise cs (cell (x -ℤ pos 2) y) (cell (x +ℤ pos 3) y) from to (before_in_row (cell (x -ℤ pos 2) y) (cell (x +ℤ pos 3) y) refl (omega (arith, ints))) h.first h.last
+
+pub row_is_close : (cs : List Cell) (x y : ℤ) (from to : ℕ) → IsRowPart cs x y from to → take (to - from) (drop from cs) ≡ filter (is_close_in_row x y) cs
+row_is_close cs x y from to h =
+    let le = row_rises cs x y from to h in
+    let ends : from + (to - from) ≡ to = omega arith in
+    let within = h.last.within in
+    part_passes (is_close_in_row x y) cs from (to - from) (omega arith)
+    (λ k d low lt. false_from_ne_true _ (λ t. before_row x y (get_or cs k d) (h.first.before k d low lt) (close_in_row_is x y (get_or cs k d) t)))
+    (λ k d low lt. close_in_row_holds x y (get_or cs k d) (within_row x y (get_or cs k d) (h.first.from k d low (omega arith)) (h.last.before k d (omega arith) (omega arith))))
+    (λ k d low lt. false_from_ne_true _ (λ t. after_row x y (get_or cs k d) (h.last.from k d (omega arith) lt) (close_in_row_is x y (get_or cs k d) t)))
+
+-- the same at the places as they are passed
+pub row_part : (cs : List Cell) (x y left right row : ℤ) (from to : ℕ) → left ≡ x -ℤ pos 2 → right ≡ x +ℤ pos 3 → row ≡ y → IsFirstFrom cs (cell left row) from → IsFirstFrom cs (cell right row) to → IsRowPart cs x y from to
+row_part cs x y left right row from to el er e first last = record {
+  first = subst (λ c. IsFirstFrom cs c from) (λ i. cell (el i) (e i)) first;
+  last = subst (λ c. IsFirstFrom cs c to) (λ i. cell (er i) (e i)) last;
+}
 
 -- ---- five rows
 
-which_row : (y b : ℤ) → y ≤ℤ (b +ℤ pos 2) → b ≤ℤ (y +ℤ pos 2) → (b ≡ y +ℤ negsuc 1) ⊎ ((b ≡ y +ℤ negsuc 0) ⊎ ((b ≡ y +ℤ pos 0) ⊎ ((b ≡ y +ℤ pos 1) ⊎ (b ≡ y +ℤ pos 2))))
-which_row y b h k = grind (arith, ints)
+-- whether the close cells of a row are none, as a test says it
+pub none_in_row : (cs found : List Cell) (x y : ℤ) (none : Bool) → found ≡ filter (is_close_in_row x y) cs → none ≡ (length found == 0) → none ≡ true → CloseInRow (listed cs) x y → ⊥
+none_in_row cs found x y none is e true' close = some_close cs x y close (sym is ∙ nil_from_length found (eqb-true (length found) 0 (sym e ∙ true')))
 
-close_by_row : (s : ℤ → ℤ → Bool) (x y row : ℤ) → y ≤ℤ (row +ℤ pos 2) → row ≤ℤ (y +ℤ pos 2) → CloseInRow s x row → Close s x y
-close_by_row s x y row h k c = record { a = c.a; b = row; lives = c.lives; near = record { right = c.right; left = c.left; below = k; above = h } }
+pub some_in_row : (cs found : List Cell) (x y : ℤ) (none : Bool) → found ≡ filter (is_close_in_row x y) cs → none ≡ (length found == 0) → none ≡ false → CloseInRow (listed cs) x y
+some_in_row cs [] x y none is e false' = cc
+some_in_row cs (c ∷ rest) x y none is e false' = close_of_some cs x y c rest (sym is)
 
--- a search of one row
-abbrev pub Finds : (ℤ → ℤ → Bool) → ℤ → ℤ → Bool → Type 0
-Finds s x row b = (b ≡ true → CloseInRow s x row) × (CloseInRow s x row → b ≡ true)
+-- the rows from two above y up to this one have no live cell that is close
+pub record NoneUpTo (s : Plane) (x y dy : ℤ) : Type 0 where
+  pub low : negsuc 1 ≤ℤ dy
+  pub high : dy ≤ℤ pos 3
+  pub none : (row : ℤ) → (y -ℤ pos 2) ≤ℤ row → row <ℤ (y +ℤ dy) → CloseInRow s x row → ⊥
 
--- what searches of five rows find
-pub five_rows : (s : ℤ → ℤ → Bool) (x y : ℤ) (a b c d e : Bool) → Finds s x (y +ℤ negsuc 1) a → Finds s x (y +ℤ negsuc 0) b → Finds s x (y +ℤ pos 0) c → Finds s x (y +ℤ pos 1) d → Finds s x (y +ℤ pos 2) e
-    → (((((a || b) || c) || d) || e) ≡ true → Close s x y) × (Close s x y → ((((a || b) || c) || d) || e) ≡ true)
-five_rows s x y a b c d e ha hb hc hd he = (there, here)
-  where
-    there : ((((a || b) || c) || d) || e) ≡ true → Close s x y
-    there h = elim (or_cases (((a || b) || c) || d) e h) [
-      | inr k ↦ close_by_row s x y (y +ℤ pos 2) (omega (arith, ints)) (omega (arith, ints)) (he.0 k)
-      | inl h4 ↦ elim (or_cases ((a || b) || c) d h4) [
-        | inr k ↦ close_by_row s x y (y +ℤ pos 1) (omega (arith, ints)) (omega (arith, ints)) (hd.0 k)
-        | inl h3 ↦ elim (or_cases (a || b) c h3) [
-          | inr k ↦ close_by_row s x y (y +ℤ pos 0) (omega (arith, ints)) (omega (arith, ints)) (hc.0 k)
-          | inl h2 ↦ elim (or_cases a b h2) [
-            | inr k ↦ close_by_row s x y (y +ℤ negsuc 0) (omega (arith, ints)) (omega (arith, ints)) (hb.0 k)
-            | inl k ↦ close_by_row s x y (y +ℤ negsuc 1) (omega (arith, ints)) (omega (arith, ints)) (ha.0 k)
-          ]
-        ]
-      ]
+pub none_begins : (s : Plane) (x y : ℤ) → NoneUpTo s x y (negsuc 1)
+none_begins s x y = record { low = omega (arith, ints); high = omega (arith, ints); none = λ row low high close. absurd (omega (arith, ints)) }
+
+pub none_more : (s : Plane) (x y dy next : ℤ) → NoneUpTo s x y dy → lt_z dy (pos 3) ≡ true → next ≡ to_z w64 (of_z w64 (dy +ℤ pos 1)) → (CloseInRow s x (y +ℤ dy) → ⊥) → NoneUpTo s x y next
+none_more s x y dy next before test e here =
+    let low = before.low in
+    let lt : dy <ℤ pos 3 = lt_from_test test in
+    let is : next ≡ dy +ℤ pos 1 = omega (arith, ints) in
+    subst (NoneUpTo s x y) (sym is) (record {
+      low = omega (arith, ints);
+      high = omega (arith, ints);
+      none = λ row down up close. elim (cases_below row (y +ℤ dy)) [
+        | inl above ↦ before.none row down above close
+        | inr le ↦ let same : row ≡ y +ℤ dy = omega (arith, ints) in here (subst (CloseInRow s x) same close)
+      ];
+    })
+
+pub none_close : (s : Plane) (x y dy : ℤ) → NoneUpTo s x y dy → lt_z dy (pos 3) ≡ false → Close s x y → ⊥
+none_close s x y dy before test h =
+    let above = h.near.above in
+    let below = h.near.below in
+    elim (cases_below dy (pos 3)) [
+      | inl lt ↦ let t = test_from_lt lt in cc
+      | inr le ↦ before.none h.b (omega (arith, ints)) (omega (arith, ints)) (record { a = h.a; lives = h.lives; left = h.near.left; right = h.near.right })
     ]
 
-    in_row : (k : Close s x y) (row : ℤ) → k.b ≡ row → CloseInRow s x row
-    in_row k row is = record { a = k.a; lives = ap (s k.a) (sym is) ∙ k.lives; left = k.near.left; right = k.near.right }
-
-    right_of : (m n : Bool) → n ≡ true → (m || n) ≡ true
-    right_of true n h = refl
-    right_of false n h = h
-
-    left_of : (m n : Bool) → m ≡ true → (m || n) ≡ true
-    left_of m n h = ap (λ o. o || n) h
-
-    here : Close s x y → ((((a || b) || c) || d) || e) ≡ true
-    here k = elim (which_row y k.b k.near.above k.near.below) [
-      | inl h ↦ left_of (((a || b) || c) || d) e (left_of ((a || b) || c) d (left_of (a || b) c (left_of a b (ha.1 (in_row k (y +ℤ negsuc 1) h)))))
-      | inr (inl h) ↦ left_of (((a || b) || c) || d) e (left_of ((a || b) || c) d (left_of (a || b) c (right_of a b (hb.1 (in_row k (y +ℤ negsuc 0) h)))))
-      | inr (inr (inl h)) ↦ left_of (((a || b) || c) || d) e (left_of ((a || b) || c) d (right_of (a || b) c (hc.1 (in_row k (y +ℤ pos 0) h))))
-      | inr (inr (inr (inl h))) ↦ left_of (((a || b) || c) || d) e (right_of ((a || b) || c) d (hd.1 (in_row k (y +ℤ pos 1) h)))
-      | inr (inr (inr (inr h))) ↦ right_of (((a || b) || c) || d) e (he.1 (in_row k (y +ℤ pos 2) h))
-    ]
-
-holds : (b : Bool) → T b → b ≡ true
-holds true h = refl
-holds false h = absurd h
-
--- the test of the column, where the row is right
-pub column_test : (c : Cell) (x y a b : ℤ) → a ≡ c.x → b ≡ x +ℤ pos 2 → c.y ≡ y → (int_le a b ≡ true → IsInRow c x y) × (IsInRow c x y → int_le a b ≡ true)
-column_test c x y a b e f row =
-    (λ h. let le : a ≤ℤ b = record { le = subst T (sym h) tt } in record { row = row; right = omega (arith, ints) }, λ h. let le : a ≤ℤ b = omega (arith, ints, h.right) in holds (int_le a b) le.le)
-
--- ---- the same at numbers that a call was passed
-
-pub row_none : (cs : List Cell) (x y d a b e : ℤ) (i : ℕ) (z : Cell) → a ≡ x → b ≡ y → e ≡ d → IsRising cs → length cs ≤ i → IsFirstFrom cs (cell (a -ℤ pos 2) (b +ℤ e)) i → Finds (listed cs) x (y +ℤ d) false
-row_none cs x y d a b e i z p q r rises past first =
-    let at = subst (λ t. IsFirstFrom cs t i) (λ j. cell (p j -ℤ pos 2) (q j +ℤ r j)) first in
-    (λ h. absurd (cc), λ close. let f = row_found cs x (y +ℤ d) i z rises at close in absurd (omega (arith, f.within)))
-
-pub row_some : (cs : List Cell) (x y d a b e : ℤ) (i : ℕ) (z : Cell) (found : Bool) → a ≡ x → b ≡ y → e ≡ d → IsRising cs → i < length cs → IsFirstFrom cs (cell (a -ℤ pos 2) (b +ℤ e)) i
-    → (found ≡ true → IsInRow (get_or cs i z) a (b +ℤ e)) × (IsInRow (get_or cs i z) a (b +ℤ e) → found ≡ true) → Finds (listed cs) x (y +ℤ d) found
-row_some cs x y d a b e i z found p q r rises lt first is =
-    let at = subst (λ t. IsFirstFrom cs t i) (λ j. cell (p j -ℤ pos 2) (q j +ℤ r j)) first in (
-      λ h. row_close cs x (y +ℤ d) i z lt at (in_row_is (λ j. q j +ℤ r j) (is.0 h)),
-      λ close. is.1 (in_row_back (λ j. q j +ℤ r j) (row_found cs x (y +ℤ d) i z rises at close).is),
-    )
-  where
-    in_row_is : b +ℤ e ≡ y +ℤ d → IsInRow (get_or cs i z) a (b +ℤ e) → IsInRow (get_or cs i z) x (y +ℤ d)
-    in_row_is g h = record { row = h.row ∙ g; right = subst (λ (n : ℤ). (get_or cs i z).x ≤ℤ (n +ℤ pos 2)) p h.right }
-
-    in_row_back : b +ℤ e ≡ y +ℤ d → IsInRow (get_or cs i z) x (y +ℤ d) → IsInRow (get_or cs i z) a (b +ℤ e)
-    in_row_back g h = record { row = h.row ∙ sym g; right = subst (λ (n : ℤ). (get_or cs i z).x ≤ℤ (n +ℤ pos 2)) (sym p) h.right }
-
-pub five_rows_at : (s : ℤ → ℤ → Bool) (x y m n : ℤ) (a b c d e : Bool) → m ≡ x → n ≡ y
-    → Finds s m (n +ℤ negsuc 1) a → Finds s m (n +ℤ negsuc 0) b → Finds s m (n +ℤ pos 0) c → Finds s m (n +ℤ pos 1) d → Finds s m (n +ℤ pos 2) e
-    → (((((a || b) || c) || d) || e) ≡ true → Close s x y) × (Close s x y → ((((a || b) || c) || d) || e) ≡ true)
-five_rows_at s x y m n a b c d e p q ha hb hc hd he =
-    let five = five_rows s m n a b c d e ha hb hc hd he in
-    (λ h. moved_to p q (five.0 h), λ k. five.1 (moved_to (sym p) (sym q) k))
-  where
-    moved_to : {u v w t : ℤ} → u ≡ v → w ≡ t → Close s u w → Close s v t
-    moved_to {u} {v} {w} {t} f g k = record {
-      a = k.a;
-      b = k.b;
-      lives = k.lives;
-      near = record {
-        right = subst (λ (o : ℤ). k.a ≤ℤ (o +ℤ pos 2)) f k.near.right;
-        left = subst (λ (o : ℤ). o ≤ℤ (k.a +ℤ pos 2)) f k.near.left;
-        below = subst (λ (o : ℤ). k.b ≤ℤ (o +ℤ pos 2)) g k.near.below;
-        above = subst (λ (o : ℤ). o ≤ℤ (k.b +ℤ pos 2)) g k.near.above;
-      };
-    }
+pub close_by_row : (s : Plane) (x y dy : ℤ) → NoneUpTo s x y dy → lt_z dy (pos 3) ≡ true → CloseInRow s x (y +ℤ dy) → Close s x y
+close_by_row s x y dy before test h =
+    let low = before.low in
+    let lt : dy <ℤ pos 3 = lt_from_test test in
+    record { a = h.a; b = y +ℤ dy; lives = h.lives; near = record { right = h.right; left = h.left; below = omega (arith, ints); above = omega (arith, ints) } }
 
 -- ---- all cells of a list
 
@@ -282,3 +219,6 @@ apart_sets ls rs s t r e f h =
     let l = alive_of_order ls s e in
     let m = alive_of_order rs t f in
     (λ k. subst (λ p. Apart p (alive t)) l (subst (λ p. Apart (listed ls) p) m (h.0 k)), λ k. h.1 (subst (λ p. Apart p (listed rs)) (sym l) (subst (λ p. Apart (alive s) p) (sym m) k)))
+
+pub close_set : (cs : List Cell) (s : Cells) (x y : ℤ) (r : Bool) → cs ≡ in_order s → (r ≡ true → Close (listed cs) x y) × (Close (listed cs) x y → r ≡ true) → (r ≡ true → Close (alive s) x y) × (Close (alive s) x y → r ≡ true)
+close_set cs s x y r e h = subst (λ p. (r ≡ true → Close p x y) × (Close p x y → r ≡ true)) (alive_of_order cs s e) h

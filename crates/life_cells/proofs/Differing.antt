@@ -10,10 +10,9 @@ use Rattle.life_cells.specs.declared.cell.Cell.{Cell}
 use Rattle.life_cells.specs.Cells.{cell, cell_cmp, IsRising, Cells, in_order, alive}
 use Rattle.life_cells.specs.Difference.{IsFirstDifference}
 use Rattle.life_cells.specs.Listed.{listed}
-use Rattle.life_cells.specs.Laws.{listed-append_at, from_list-in_order}
+use Rattle.life_cells.specs.Laws.{listed-append_at, from_list-in_order, alive_of_order}
 use Rattle.life_cells.specs.Order.{cells_total, cells_antisymmetric, same_cell-itself}
 use Rattle.life_cells.proofs.Merging.{all_after}
-use Rattle.life_cells.proofs.Places.{alive_of_order}
 
 -- a cell before all listed ones is not listed
 pub unlisted_before : (c : Cell) (cs : List Cell) → AllByRecursion (λ d. cell_cmp c d ≡ Less) cs → listed cs c.x c.y ≡ false

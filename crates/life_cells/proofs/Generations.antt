@@ -5,12 +5,11 @@ use Rattle.std.specs.List.Sorted.{IsPermutation}
 use Rattle.std.proofs.lemmas.Bool.Decides.{nat_tests}
 use Rattle.life_cells.specs.declared.cell.Cell.{Cell}
 use Rattle.life_cells.specs.Cells.{cell, Cells, alive, in_order, from_list, IsRising}
-use Rattle.life_cells.specs.Laws.{alive-from_list}
+use Rattle.life_cells.specs.Laws.{alive-from_list, alive_of_order}
 use Rattle.life_cells.specs.Listed.{listed, times}
 use Rattle.life_cells.specs.Near.{near_list, block}
 use Rattle.life_cells.specs.Survivors.{lives_with}
 use Rattle.life_cells.specs.Boxes.{IsInRange}
-use Rattle.life_cells.proofs.Places.{alive_of_order}
 use Rattle.life_cells.proofs.Times.{times-permutation}
 use Rattle.life_cells.proofs.Around.{times-near}
 use Rattle.life_plane.specs.Plane.{Plane, step, run, one_if, neighbours, lives_on, same_plane}
@@ -29,9 +28,6 @@ marks_step cells cs near sorted marks next order rises is moved same lives = ali
     let count : times marks x y ≡ block (alive cells) x y =
     ap (λ xs. times xs x y) same ∙ times-permutation near sorted x y moved ∙ ap (λ xs. times xs x y) is ∙ times-near cs x y rises ∙ ap (λ (p : Plane). block p x y) (alive_of_order cs cells order) in
     lives x y ∙ ap (lives_with cells (cell x y)) count ∙ counted (alive cells x y) (neighbours (alive cells) x y))
-
-pub range_of_list : (n : ℕ) (cs : List Cell) (s : Cells) → cs ≡ in_order s → IsInRange n (alive s) → IsInRange n (listed cs)
-range_of_list n cs s e h = subst (IsInRange n) (sym (alive_of_order cs s e)) h
 
 -- the n-th generation, in its range
 pub record IsGeneration (first : Plane) (range n : ℕ) (now : Plane) : Type 0 where

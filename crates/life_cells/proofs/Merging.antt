@@ -6,6 +6,7 @@ use Rattle.std.specs.Ordering.{ordering_reverse}
 use Rattle.std.specs.List.{AllByRecursion}
 use Rattle.std.specs.List.Sorted.{IsStrictlySortedBy}
 use Rattle.std.proofs.lemmas.List.{drop_more}
+use Rattle.std.proofs.Math.Bool.{or_comm, or_assoc}
 use Rattle.life_cells.specs.declared.cell.Cell.{Cell}
 use Rattle.life_cells.specs.Cells.{cell, cell_cmp, IsRising}
 use Rattle.life_cells.specs.Listed.{same_cell, listed}
@@ -36,20 +37,6 @@ pub record IsMerging (left right : List Cell) (i j : ℕ) (done : List Cell) : T
   pub right_rises : IsRising (done ++ drop j right)
   pub both : (x y : ℤ) → (listed done x y || (listed (drop i left) x y || listed (drop j right) x y)) ≡ (listed left x y || listed right x y)
 
-none_right : (a : Bool) → (a || false) ≡ a
-none_right true = refl
-none_right false = refl
-
-swapped : (a b : Bool) → (a || b) ≡ (b || a)
-swapped true true = refl
-swapped true false = refl
-swapped false true = refl
-swapped false false = refl
-
-assoc : (a b c : Bool) → ((a || b) || c) ≡ (a || (b || c))
-assoc true b c = refl
-assoc false b c = refl
-
 taken_left : (d s a b : Bool) → ((d || (s || false)) || (a || b)) ≡ (d || ((s || a) || b))
 taken_left true s a b = refl
 taken_left false true a b = refl
@@ -66,7 +53,7 @@ merging_swapped {left} {right} {i} {j} {done} h = record {
   right_in = h.left_in;
   left_rises = h.right_rises;
   right_rises = h.left_rises;
-  both = λ x y. ap (λ b. listed done x y || b) (swapped (listed (drop j right) x y) (listed (drop i left) x y)) ∙ h.both x y ∙ swapped (listed left x y) (listed right x y);
+  both = λ x y. ap (λ b. listed done x y || b) (or_comm (listed (drop j right) x y) (listed (drop i left) x y)) ∙ h.both x y ∙ or_comm (listed left x y) (listed right x y);
 }
 
 -- the left head comes first
@@ -130,5 +117,5 @@ merged_both left right i j done all h e = same_plane _ _ (λ x y.
     ap (λ xs. listed xs x y) e
     ∙ listed-append_at (done ++ drop i left) (drop j right) x y
     ∙ ap (λ t. t || listed (drop j right) x y) (listed-append_at done (drop i left) x y)
-    ∙ assoc (listed done x y) (listed (drop i left) x y) (listed (drop j right) x y)
+    ∙ or_assoc (listed done x y) (listed (drop i left) x y) (listed (drop j right) x y)
     ∙ h.both x y)

@@ -1,5 +1,5 @@
 -- What an index and a search say of a list of cells.
-use Rattle.std.proofs.Common.{◌≡◌, ℕ, ◌+◌, ◌<◌, Bool, true, false, List, [], ◌∷◌, length, get_or, Option, Some, None, Result, Ok, Err, refl, sym, ap, ◌∙◌, arith, inl, inr}
+use Rattle.std.proofs.Common.{◌≡◌, ℕ, ◌+◌, Bool, true, false, List, length, get_or, Option, Some, None, Result, Ok, Err, refl, sym, ap, ◌∙◌, arith, inl, inr}
 use Rattle.std.specs.declared.cmp.Ordering.{Ordering}
 use Rattle.std.specs.declared.cmp.Ordering.TheVariants.{Less, Greater}
 use Rattle.std.specs.Ordering.{is_lt, is_eq, ordering_reverse}
@@ -16,8 +16,7 @@ use Rattle.std.proofs.lemmas.List.Folds.{list_any_at, list_any_none, Any-from_li
 use Rattle.std.proofs.lemmas.List.Sorted.{searchable_from_sorted}
 use Rattle.std.proofs.lemmas.Map.Keys.{Less-from_sorted}
 use Rattle.life_cells.specs.declared.cell.Cell.{Cell}
-use Rattle.life_cells.specs.Cells.{cell_cmp, IsRising, Cells, in_order, alive}
-use Rattle.life_cells.specs.Laws.{alive-in_order}
+use Rattle.life_cells.specs.Cells.{cell_cmp, IsRising}
 use Rattle.life_cells.specs.Listed.{same_cell, listed}
 use Rattle.life_cells.specs.Order.{cells_total, same_cell_is, same_cell-itself}
 use Rattle.life_plane.specs.Plane.{same_plane}
@@ -45,9 +44,6 @@ search_is_listed cs c (Err i) h within is =
 pub contains_listed : (cs : List Cell) (c : Cell) → Contains cs c → listed cs c.x c.y ≡ true
 contains_listed cs c h = list_any_at (same_cell c) cs h.0 c h.1 (ap (same_cell c) h.2 ∙ same_cell-itself c)
 
-pub place_listed : (cs : List Cell) (k : ℕ) (d : Cell) → k < length cs → listed cs (get_or cs k d).x (get_or cs k d).y ≡ true
-place_listed cs k d lt = list_any_at (same_cell (get_or cs k d)) cs k d lt (same_cell-itself (get_or cs k d))
-
 pub listed_contains : (cs : List Cell) (c : Cell) → listed cs c.x c.y ≡ true → Contains cs c
 listed_contains cs c h =
     let there = Any-from_list_any (same_cell c) cs h in
@@ -63,11 +59,3 @@ same_listed cs ds f g = same_plane _ _ (λ x y. let c : Cell = record { y = y; x
     both_true_or_not true b f g = sym (f refl)
     both_true_or_not false true f g = g refl
     both_true_or_not false false f g = refl
-
-pub none_of_length : (cs : List Cell) → length cs ≡ 0 → cs ≡ []
-none_of_length [] h = refl
-none_of_length (c ∷ cs) h = absurd (omega arith)
-
--- what is listed in order is what lives
-pub alive_of_order : (cs : List Cell) (s : Cells) → cs ≡ in_order s → listed cs ≡ alive s
-alive_of_order cs s e = ap listed e ∙ sym (alive-in_order s)

@@ -15,6 +15,7 @@ use Rattle.life_cells.specs.Order.{cells_total, same_cell_is, rising-none}
 use Rattle.life_cells.specs.Laws.{listed-append_at}
 use Rattle.life_cells.specs.Survivors.{kept, lives_with}
 use Rattle.std.proofs.lemmas.List.{drop_all}
+use Rattle.std.proofs.Math.Bool.{or-false}
 use Rattle.life_cells.specs.Same.{same_fields}
 use Rattle.life_cells.specs.SameLaws.{same_fields_tie, same_fields_is}
 use Rattle.life_cells.proofs.Times.{none_before}
@@ -123,10 +124,6 @@ kept_there lives c n x y e =
 kept_elsewhere : (lives : Cell → ℕ → Bool) (c : Cell) (n : ℕ) (x y : ℤ) → same_cell (cell x y) c ≡ false → listed (kept lives c n) x y ≡ false
 kept_elsewhere lives c n x y e = elim (lives c n) as (λ b. listed (cond b (c ∷ []) []) x y ≡ false) [ true ↦ ap (λ a. a || false) e | false ↦ refl ]
 
-or_false : (a : Bool) → (a || false) ≡ a
-or_false true = refl
-or_false false = refl
-
 one_more : (b : Bool) (n t : ℕ) → cond b (n + 1) 0 + t ≡ cond b n 0 + (one_if b + t)
 one_more true n t = omega arith
 one_more false n t = omega arith
@@ -139,7 +136,7 @@ new_run lives quiet c n d cs x y after rest =
     elim (same_cell p c) as (λ b. same_cell p c ≡ b → (listed (kept lives c n) x y || listed (runs lives d 1 cs) x y) ≡ lives p (cond b n 0 + times (d ∷ cs) x y)) [
       | true ↦ λ e.
           let none : times (d ∷ cs) x y ≡ 0 = ap (λ (f : Cell). times (d ∷ cs) f.x f.y) (same_cell_is p c e) ∙ none_before c (d ∷ cs) after in
-          (λ i. kept_there lives c n x y e i || (rest ∙ ap (lives p) none ∙ quiet p) i) ∙ or_false (lives p n) ∙ ap (lives p) (sym (add-zero n) ∙ ap (λ t. n + t) (sym none))
+          (λ i. kept_there lives c n x y e i || (rest ∙ ap (lives p) none ∙ quiet p) i) ∙ or-false (lives p n) ∙ ap (lives p) (sym (add-zero n) ∙ ap (λ t. n + t) (sym none))
       | false ↦ λ e. (λ i. kept_elsewhere lives c n x y e i || rest i) ∙ ap (lives p) (sym (zero-add (times (d ∷ cs) x y)))
     ] refl
 

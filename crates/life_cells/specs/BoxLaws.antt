@@ -7,8 +7,9 @@ use Rattle.std.proofs.lemmas.Option.{slice_get_within, get_or_from_slice_get}
 use Rattle.std.proofs.lemmas.Bool.{or_cases}
 use Rattle.life_cells.specs.declared.bounds.Bounds.{Bounds}
 use Rattle.life_cells.specs.declared.cell.Cell.{Cell}
-use Rattle.life_cells.specs.Cells.{cell, alive, from_list}
-use Rattle.life_cells.specs.Laws.{alive-from_list_at, place_of_listed}
+use Rattle.life_cells.specs.Cells.{cell, Cells, alive, in_order, from_list}
+use Rattle.life_cells.specs.Laws.{alive-from_list_at, place_of_listed, alive_of_order}
+use Rattle.life_cells.specs.Listed.{listed}
 use Rattle.life_cells.specs.Boxes.{IsInRange, IsLeastBox, CanMove}
 use Rattle.life_plane.specs.Plane.{Plane, step, run, union}
 use Rattle.life_plane.specs.Apart.{Live, Dead, live_or_dead, dead_step}
@@ -23,8 +24,12 @@ range_wider m n s h le = record {
   y_high = λ x y l. let k = h.y_high x y l in omega (arith, ints);
 }
 
+-- the cells of a list are in range where those of its set are
+pub range_of_list : (n : ℕ) (cs : List Cell) (s : Cells) → cs ≡ in_order s → IsInRange n (alive s) → IsInRange n (listed cs)
+range_of_list n cs s e h = subst (IsInRange n) (sym (alive_of_order cs s e)) h
+
 -- a cell that lives next is near one that lives now
-near_live : (s : Plane) (x y : ℤ) → step s x y ≡ true → Live s x y
+pub near_live : (s : Plane) (x y : ℤ) → step s x y ≡ true → Live s x y
 near_live s x y h = from (live_or_dead s x y)
   where
     from : (Live s x y) ⊎ (Dead s x y) → Live s x y

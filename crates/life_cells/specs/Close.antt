@@ -1,7 +1,7 @@
 -- Live cells close to a place.
-use Rattle.std.specs.Prelude.{◌≡◌, true, false, ℕ, ◌≤◌, ℤ, pos, ◌+ℤ◌, ◌≤ℤ◌, List, length}
+use Rattle.std.specs.Prelude.{◌≡◌, Bool, true, false, ◌&&◌, ℕ, ◌≤◌, ℤ, pos, ◌+ℤ◌, ◌-ℤ◌, ◌≤ℤ◌, int_le, List, length}
 use Rattle.std.specs.declared.cmp.Ordering.TheVariants.{Less}
-use Rattle.std.specs.Ordering.{is_lt}
+use Rattle.std.specs.Ordering.{is_lt, int_eq}
 use Rattle.std.specs.List.{AllWithin}
 use Rattle.life_cells.specs.declared.cell.Cell.{Cell}
 use Rattle.life_cells.specs.Cells.{cell_cmp}
@@ -15,10 +15,9 @@ pub record CloseInRow (s : Plane) (x y : ℤ) : Type 0 where
   pub left : x ≤ℤ (a +ℤ pos 2)
   pub right : a ≤ℤ (x +ℤ pos 2)
 
--- the cell is in row y, and at most two columns right of x
-pub record IsInRow (c : Cell) (x y : ℤ) : Type 0 where
-  pub row : c.y ≡ y
-  pub right : c.x ≤ℤ (x +ℤ pos 2)
+-- is the cell in row y, and at most two columns from x
+abbrev pub is_close_in_row : ℤ → ℤ → Cell → Bool
+is_close_in_row x y c = int_eq c.y y && (int_le (x -ℤ pos 2) c.x && int_le c.x (x +ℤ pos 2))
 
 -- i is the place of the first listed cell that does not come before c
 pub record IsFirstFrom (cs : List Cell) (c : Cell) (i : ℕ) : Type 0 where

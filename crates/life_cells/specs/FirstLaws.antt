@@ -14,6 +14,7 @@ use Rattle.life_cells.specs.Order.{cells_total, cells_antisymmetric}
 use Rattle.life_cells.specs.Laws.{place_of_listed}
 use Rattle.life_plane.specs.Plane.{Plane}
 use Rattle.std.specs.Option.{MatchOption, IfSome, IfNone}
+use Rattle.life_plane.specs.ListLaws.{same_item}
 use Rattle.life_cells.specs.Difference.{IsFirstDifference}
 use Rattle.life_cells.specs.Firsts.{IsFirstOf, IsFirstDifferent}
 
@@ -46,9 +47,6 @@ pub rising_places : (cs : List Cell) → IsRising cs → (i k : ℕ) (c d : Cell
 rising_places cs rises i k c d at_i at_k lt =
     let less = Less-from_sorted cell_cmp cs i k c rises lt (slice_get_within cs k d at_k) in
     subst (λ e. cell_cmp e d ≡ Less) (get_or_from_slice_get cs i c c at_i) (subst (λ e. cell_cmp (get_or cs i c) e ≡ Less) (get_or_from_slice_get cs k d c at_k) less)
-
-same_item : {c d : Cell} {o : Option Cell} → o ≡ Some c → o ≡ Some d → c ≡ d
-same_item p q = cc
 
 lt_or_same : (k i : ℕ) → i ≤ k → (i < k) ⊎ (i ≡ k)
 lt_or_same k i h = grind arith

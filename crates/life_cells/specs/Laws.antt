@@ -1,5 +1,5 @@
 -- The laws of finite sets of cells.
-use Rattle.std.specs.Prelude.{◌≡◌, Bool, true, false, cond, ◌||◌, ◌&&◌, ℕ, ℤ, List, [], ◌∷◌, ◌++◌, map, Option, Some, None, is_some, slice_get, T}
+use Rattle.std.specs.Prelude.{◌≡◌, Bool, true, false, cond, ◌||◌, ◌&&◌, ℕ, ◌<◌, length, ℤ, List, [], ◌∷◌, ◌++◌, map, Option, Some, None, is_some, slice_get, T}
 use Rattle.std.specs.declared.cmp.Ordering.{Ordering}
 use Rattle.std.specs.declared.cmp.Ordering.TheVariants.{Less, Equal, Greater}
 use Rattle.std.specs.Ordering.{is_lt}
@@ -7,9 +7,10 @@ use Rattle.std.specs.List.{AllByRecursion}
 use Rattle.std.specs.List.Sorted.{IsStrictlySortedBy}
 use Rattle.std.specs.FinMap as finite
 use Rattle.std.specs.FinMap.Entries.{find, is_sorted, below_all}
-use Rattle.std.proofs.Common.{refl, sym, ap, subst, ◌∙◌}
+use Rattle.std.proofs.Common.{get_or, refl, sym, ap, subst, ◌∙◌}
 use Rattle.std.proofs.lemmas.List.Folds.{list_any-append, list_any_at, Any-from_list_any}
 use Rattle.std.proofs.lemmas.Option.{slice_get_within, get_or_from_slice_get, slice_get-get_or}
+use Rattle.std.proofs.Math.Facts.{yes_and}
 use Rattle.life_cells.specs.declared.cell.Cell.{Cell}
 use Rattle.life_cells.specs.Cells.{cell, cell_cmp, Cells, entry, alive, in_order, from_list, empty, IsRising}
 use Rattle.life_cells.specs.Listed.{same_cell, listed}
@@ -39,6 +40,10 @@ alive-in_order_at s x y = finite.contains_key-keys s (cell x y)
 -- what lives is what is in order
 pub alive-in_order : (s : Cells) → alive s ≡ listed (in_order s)
 alive-in_order s = same_plane _ _ (alive-in_order_at s)
+
+-- what is listed in order is what lives
+pub alive_of_order : (cs : List Cell) (s : Cells) → cs ≡ in_order s → listed cs ≡ alive s
+alive_of_order cs s e = ap listed e ∙ sym (alive-in_order s)
 
 found : (cs : List Cell) (x y : ℤ) → is_some (find cell_cmp (cell x y) (map entry cs)) ≡ listed cs x y
 found [] x y = refl
@@ -70,10 +75,6 @@ pub from_list-in_order : (s : Cells) → from_list (in_order s) ≡ s
 from_list-in_order s = same_cells _ _ (alive-from_list (in_order s) ∙ sym (alive-in_order s))
 
 -- ---- in order
-
-both_hold : (a b : Bool) → T a → T b → T (a && b)
-both_hold true b p q = q
-both_hold false b p q = p
 
 first_holds : (a b : Bool) → T (a && b) → T a
 first_holds true b p = tt
@@ -107,12 +108,12 @@ rising-in_order s = rising_keys _ (finite.entries_sorted s)
 
 all_below : (c : Cell) (cs : List Cell) → AllByRecursion (λ d. cell_cmp c d ≡ Less) cs → T (below_all cell_cmp c (map entry cs))
 all_below c [] h = tt
-all_below c (d ∷ cs) h = both_hold _ _ (subst (λ o. T (is_lt o)) (sym h.0) tt) (all_below c cs h.1)
+all_below c (d ∷ cs) h = yes_and _ _ (subst (λ o. T (is_lt o)) (sym h.0) tt) (all_below c cs h.1)
 
 rising_entries : (cs : List Cell) → IsRising cs → T (is_sorted cell_cmp (map entry cs))
 unfolding IsStrictlySortedBy
 rising_entries [] h = tt
-rising_entries (c ∷ cs) h = both_hold _ _ (all_below c cs h.0) (rising_entries cs h.1)
+rising_entries (c ∷ cs) h = yes_and _ _ (all_below c cs h.0) (rising_entries cs h.1)
 
 keys_of_entries : (cs : List Cell) → map (λ (e : Entry). e.0) (map entry cs) ≡ cs
 keys_of_entries [] = refl
@@ -163,6 +164,10 @@ empty_of_none s e = sym (from_list-in_order s) ∙ ap from_list e ∙ from_list-
 pub listed_at_place : (cs : List Cell) (k : ℕ) (c : Cell) → slice_get cs k ≡ Some c → listed cs c.x c.y ≡ true
 listed_at_place cs k c h =
     list_any_at (same_cell c) cs k c (slice_get_within cs k c h) (ap (same_cell c) (get_or_from_slice_get cs k c c h) ∙ same_cell-itself c)
+
+-- what a list has at a place is listed
+pub place_listed : (cs : List Cell) (k : ℕ) (d : Cell) → k < length cs → listed cs (get_or cs k d).x (get_or cs k d).y ≡ true
+place_listed cs k d lt = list_any_at (same_cell (get_or cs k d)) cs k d lt (same_cell-itself (get_or cs k d))
 
 -- a listed cell has a place
 pub place_of_listed : (cs : List Cell) (x y : ℤ) → listed cs x y ≡ true → (k : ℕ) × (slice_get cs k ≡ Some (cell x y))

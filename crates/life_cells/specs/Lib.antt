@@ -12,6 +12,7 @@ pub mod Same
 pub mod SameLaws
 pub mod Difference
 pub mod Close
+pub mod CloseLaws
 pub mod Firsts
 pub mod FirstLaws
 pub mod PlaceLaws

@@ -1,5 +1,5 @@
 -- The order of cells.
-use Rattle.std.specs.Prelude.{◌≡◌, true, ◌⊎◌, ℕ, ◌-◌, ◌<◌, ◌<ℤ◌, List, [], ◌∷◌, ◌++◌, length}
+use Rattle.std.specs.Prelude.{◌≡◌, true, ◌⊎◌, ◌-◌, ◌<◌, ◌<ℤ◌, List, [], ◌∷◌, ◌++◌, length}
 use Rattle.std.specs.declared.cmp.Ordering.{Ordering}
 use Rattle.std.specs.declared.cmp.Ordering.TheVariants.{Less, Equal, Greater}
 use Rattle.std.specs.Ordering.{int_cmp, ordering_then, is_eq}
@@ -9,7 +9,8 @@ use Rattle.std.specs.List.Sorted.{IsStrictlySortedBy}
 use Rattle.std.specs.FinSet.{IsAntisymmetric}
 use Rattle.std.proofs.lemmas.Bool.{cases_lt}
 use Rattle.std.proofs.lemmas.Map.Keys.{Less-from_sorted}
-use Rattle.std.proofs.Common.{suc, get_or, refl, sym, ap, ◌∙◌, inl, inr, arith}
+use Rattle.std.proofs.Common.{get_or, refl, sym, ap, ◌∙◌, inl, inr, arith}
+use Rattle.life_plane.specs.ListLaws.{all_push, all_at_places}
 use Rattle.life_cells.specs.declared.cell.Cell.{Cell}
 use Rattle.life_cells.specs.Cells.{cell_cmp, IsRising}
 use Rattle.life_cells.specs.Listed.{same_cell}
@@ -78,23 +79,15 @@ pub rising-cons : (c : Cell) (cs : List Cell) → AllByRecursion (λ d. cell_cmp
 unfolding IsStrictlySortedBy
 rising-cons c cs h k = (h, k)
 
-each_push : (P : Cell → Type 0) (cs : List Cell) (d : Cell) → AllByRecursion P cs → P d → AllByRecursion P (cs ++ d ∷ [])
-each_push P [] d h p = (p, tt)
-each_push P (c ∷ cs) d h p = (h.0, each_push P cs d h.1 p)
-
 -- one more cell after all others
 pub rising_push : (cs : List Cell) (d : Cell) → IsRising cs → AllByRecursion (λ c. cell_cmp c d ≡ Less) cs → IsRising (cs ++ d ∷ [])
 unfolding IsStrictlySortedBy
 rising_push [] d h below = (tt, tt)
-rising_push (c ∷ cs) d h below = (each_push (λ e. cell_cmp c e ≡ Less) cs d h.0 below.0, rising_push cs d h.1 below.1)
-
-each_by_place : (P : Cell → Type 0) (cs : List Cell) (z : Cell) → ((k : ℕ) → k < length cs → P (get_or cs k z)) → AllByRecursion P cs
-each_by_place P [] z h = tt
-each_by_place P (c ∷ cs) z h = (h 0 (omega arith), each_by_place P cs z (λ k lt. h (suc k) (omega arith)))
+rising_push (c ∷ cs) d h below = (all_push (λ e. cell_cmp c e ≡ Less) cs d h.0 below.0, rising_push cs d h.1 below.1)
 
 -- one more cell after the last one
 pub rising_push_last : (cs : List Cell) (d z : Cell) → IsRising cs → (0 < length cs → cell_cmp (get_or cs (length cs - 1) z) d ≡ Less) → IsRising (cs ++ d ∷ [])
-rising_push_last cs d z h last = rising_push cs d h (each_by_place (λ c. cell_cmp c d ≡ Less) cs z (λ k lt. elim (cases_lt k (length cs - 1)) [
+rising_push_last cs d z h last = rising_push cs d h (all_at_places (λ c. cell_cmp c d ≡ Less) cs z (λ k lt. elim (cases_lt k (length cs - 1)) [
   | inl before ↦ cells_total.trans (get_or cs k z) (get_or cs (length cs - 1) z) d (Less-from_sorted cell_cmp cs k (length cs - 1) z h before (omega arith)) (last (omega arith))
   | inr at ↦ let same : k ≡ length cs - 1 = omega arith in ap (λ i. cell_cmp (get_or cs i z) d) same ∙ last (omega arith)
 ]))

@@ -1,8 +1,9 @@
 -- The laws of the cells of a list and of a set, one by one: what stands at a place lives, and what holds at each place holds of what lives.
-use Rattle.std.proofs.Common.{◌≡◌, ℕ, ◌+◌, ◌<◌, ◌≤◌, Bool, true, false, ◌||◌, refl, ℤ, List, [], ◌∷◌, length, get_or, Option, Some, sym, ap, subst, ◌∙◌, arith, inl, inr}
+use Rattle.std.proofs.Common.{◌≡◌, ℕ, ◌+◌, ◌<◌, ◌≤◌, true, ℤ, List, [], ◌∷◌, length, get_or, Some, sym, ap, subst, ◌∙◌, arith, inl, inr}
 use Rattle.std.specs.List.{slice_get, AllByRecursion}
 use Rattle.std.proofs.lemmas.Option.{slice_get_within, slice_get-get_or}
-use Rattle.std.proofs.lemmas.Bool.{cases_lt}
+use Rattle.std.proofs.lemmas.Bool.{cases_lt, or_left, or_right}
+use Rattle.life_plane.specs.ListLaws.{same_item}
 use Rattle.life_plane.specs.Plane.{Plane}
 use Rattle.life_cells.specs.declared.cell.Cell.{Cell}
 use Rattle.life_cells.specs.Cells.{cell, Cells, alive, in_order}
@@ -18,9 +19,6 @@ at_place s items order i z lt = ap (λ cs. slice_get cs i) (sym order) ∙ slice
 pub live_at : (s : Cells) (items : List Cell) → items ≡ in_order s → (i : ℕ) (z : Cell) → i < length items → alive s (get_or items i z).x (get_or items i z).y ≡ true
 live_at s items order i z lt =
     ap (λ (p : Plane). p (get_or items i z).x (get_or items i z).y) (alive-in_order s) ∙ listed_at_place (in_order s) i (get_or items i z) (at_place s items order i z lt)
-
-same_item : {c d : Cell} {o : Option Cell} → o ≡ Some c → o ≡ Some d → c ≡ d
-same_item p q = cc
 
 same_number : (k i : ℕ) → k < i + 1 → i ≤ k → k ≡ i
 same_number k i h g = omega arith
@@ -43,18 +41,11 @@ each_live s P n short each x y live =
 
 -- ---- the cells of a list
 
-true_or : (a b : Bool) → a ≡ true → (a || b) ≡ true
-true_or a b h = ap (λ v. v || b) h
-
-or_true : (a b : Bool) → b ≡ true → (a || b) ≡ true
-or_true true b h = refl
-or_true false b h = h
-
 pub listed_here : (c : Cell) (cs : List Cell) → listed (c ∷ cs) c.x c.y ≡ true
-listed_here c cs = true_or _ _ (same_cell-itself c)
+listed_here c cs = or_left _ _ (same_cell-itself c)
 
 listed_there : (c : Cell) (cs : List Cell) (x y : ℤ) → listed cs x y ≡ true → listed (c ∷ cs) x y ≡ true
-listed_there c cs x y h = or_true (same_cell (cell x y) c) _ h
+listed_there c cs x y h = or_right (same_cell (cell x y) c) _ h
 
 -- what holds of what is listed holds of each cell
 pub each_listed : (P : Cell → Type 0) (cs : List Cell) → ((c : Cell) → listed cs c.x c.y ≡ true → P c) → AllByRecursion P cs

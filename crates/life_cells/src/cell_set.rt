@@ -1,8 +1,10 @@
 //! Finite sets of cells, in a sorted vector.
 
-ghost use Rattle.std.specs.Prelude.{◌≡◌, ◌↔◌, [], ◌∷◌, false, true, not, length, IfOk, OnOk, OnErr, IfSome, IfNone, IsTrue, slice_get};
+ghost use Rattle.std.specs.Prelude.{◌≡◌, ◌↔◌, [], ◌∷◌, false, true, not, length, IfOk, OnOk, OnErr, IfSome, IfNone, IsTrue, slice_get, ◌+ℤ◌};
+ghost use Rattle.std.specs.List.{filter};
 ghost use Rattle.life_cells.specs.Cells.{Cells, coded_cells, IsRising, in_order, alive, from_list, empty};
 ghost use Rattle.life_cells.specs.Boxes.{IsLeastBox, CanMove};
+ghost use Rattle.life_cells.specs.Close.{Close, is_close_in_row};
 ghost use Rattle.life_cells.specs.Difference.{IsFirstDifference};
 ghost use Rattle.life_cells.specs.Listed.{listed};
 ghost use Rattle.life_plane.specs.Apart.{Apart};
@@ -12,6 +14,7 @@ use crate::apart::are_apart;
 use crate::bounding::bounds_of;
 use crate::bounds::Bounds;
 use crate::cell::Cell;
+use crate::close::{close_in_row, has_close};
 use crate::difference::first_difference_of;
 use crate::memory::NoMemory;
 use crate::merge::merged;
@@ -163,6 +166,20 @@ impl CellSet {
         ensures none { IfNone result (self.now ≡ other.now) }
     {
         first_difference_of(self.cells(), other.cells())
+    }
+
+    /// The cells of the row dy below the cell's own that are at most two columns from it, in order. It takes no memory.
+    pub fn close_in_row(&self, it: Cell, dy: i64) -> &[Cell]
+        ensures { result.now ≡ filter (is_close_in_row it.x (it.y +ℤ dy)) (in_order self.now) }
+    {
+        close_in_row(self.cells(), it, dy)
+    }
+
+    /// Whether a cell of the set is at distance 2 or less from this one.
+    pub fn has_close(&self, it: Cell) -> bool
+        ensures { IsTrue result ↔ Close (alive self.now) it.x it.y }
+    {
+        has_close(self.cells(), it)
     }
 
     /// Whether no cell of the one set is at distance 2 or less from a cell of the other.

@@ -7,6 +7,7 @@ mod bounding;
 pub mod bounds;
 pub mod cell;
 pub mod cell_set;
+mod close;
 mod difference;
 mod equality;
 pub mod memory;

@@ -1,6 +1,7 @@
+use Rattle.life_cells.specs.BoxLaws.{range_of_list}
 use Rattle.std.proofs.Common.{ap, ◌∙◌}
 use Rattle.life_cells.specs.Cells.{alive}
-use Rattle.life_cells.proofs.Generations.{marks_step, range_of_list}
+use Rattle.life_cells.proofs.Generations.{marks_step}
 use Rattle.life_cells.proofs.step.next_generation.Goals as goal
 
 pub near_places-requires : goal.near_places-requires

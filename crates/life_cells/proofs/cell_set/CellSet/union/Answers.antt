@@ -1,7 +1,6 @@
 use Rattle.std.proofs.Common.{◌∙◌}
-use Rattle.life_cells.specs.Laws.{alive-from_list}
+use Rattle.life_cells.specs.Laws.{alive-from_list, alive_of_order}
 use Rattle.life_plane.specs.Plane.{union}
-use Rattle.life_cells.proofs.Places.{alive_of_order}
 use Rattle.life_cells.proofs.cell_set.CellSet.union.Goals as goal
 
 pub returns : goal.returns

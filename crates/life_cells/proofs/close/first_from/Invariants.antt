@@ -1,11 +1,10 @@
 use Rattle.std.proofs.Common.{◌-◌}
-use Rattle.std.specs.Prelude.{pos, ◌+ℤ◌, ◌-ℤ◌}
 use Rattle.life_cells.specs.Cells.{cell}
 use Rattle.life_cells.proofs.Closeness.{IsHalved}
-use Rattle.life_cells.proofs.apart.first_from.Given as goal
+use Rattle.life_cells.proofs.close.first_from.Given as goal
 
 abbrev pub invariant-halves : goal.invariant-halves
-invariant-halves l = IsHalved l.cells (cell (l.x -ℤ pos 2) (l.y +ℤ l.dy)) l.low l.high
+invariant-halves l = IsHalved l.cells (cell l.x l.y) l.low l.high
 
 abbrev pub decreases-halves : goal.decreases-halves
 decreases-halves l = l.high - l.low
