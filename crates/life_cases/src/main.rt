@@ -1,0 +1,69 @@
+//! Cases as data: the files that the words name have a case a line, and what each answers is printed behind it. What must be printed
+//! stands in `stdout` beside `src`, taken from outside this program. docs/CASES.md says how a line is written.
+#![tactic(auto)]
+
+ghost use Rattle.std.specs.Prelude.{◌≡◌, ◌<◌};
+
+mod calls;
+mod books;
+mod cells;
+mod cases;
+mod runs;
+mod show;
+mod texts;
+
+use cases::Cases;
+use life_cells::NoMemory;
+use life_io::{HostDepot, HostSink, Sink};
+use life_steps::Steps;
+use std::marker::Brand;
+use std::process::ExitCode;
+use std::sync::ledger::{Blank, Ledger};
+use std::{env, io};
+
+/// The status where there is no memory.
+const NO_MEMORY: u8 = 12;
+
+/// The status where the system gives no words, or takes no answer.
+const NO_WORDS: u8 = 20;
+
+// The words after the program's name.
+fn words_of(rt: &HostRuntime) -> io::Result<Vec<String>> {
+    let mut words = Vec::new(rt.alloc());
+    for word in env::args(rt)?.skip(1) {
+        words.push(word)?;
+    }
+    Ok(words)
+}
+
+// Runs the cases of the files with these names; whether standard output took what they answer.
+fn run<L: Ledger>(rt: HostRuntime, names: &[String], blank: Blank) -> Result<bool, NoMemory>
+    requires name { blank.name ≡ L.name }
+    requires parts { blank.parts ≡ L.parts }
+    requires some { 0 < blank.parts }
+{
+    let alloc = rt.alloc();
+    let mut depot = HostDepot::new(rt);
+    let mut out = HostSink::output(rt);
+    let mut steps = Steps::<L>::new(blank);
+    let mut cases = Cases::new(alloc);
+    let mut taken = true;
+    for name in names {
+        let report = cases.answers(&mut depot, name.as_str(), &mut steps)?;
+        if out.put(report.as_bytes()).is_err() {
+            taken = false;
+        }
+    }
+    Ok(taken)
+}
+
+fn main(rt: HostRuntime) -> ExitCode {
+    let Ok(names) = words_of(&rt) else {
+        return ExitCode::from(NO_WORDS);
+    };
+    match run::<Brand>(rt, &names, Blank::new(1)) {
+        Ok(true) => ExitCode::from(0),
+        Ok(false) => ExitCode::from(NO_WORDS),
+        Err(NoMemory) => ExitCode::from(NO_MEMORY),
+    }
+}
