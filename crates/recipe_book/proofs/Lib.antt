@@ -5,4 +5,3 @@ pub mod Indexing
 pub mod Refusing
 pub mod OneList
 pub mod Whole
-pub mod Made

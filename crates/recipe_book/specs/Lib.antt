@@ -5,4 +5,3 @@ pub mod Accepting
 pub mod Checked
 pub mod ByShape
 pub mod Refusals
-pub mod Made

@@ -8,8 +8,6 @@ mod index;
 pub mod laws;
 pub mod refusal;
 mod salvos;
-#[cfg(test)]
-mod tests;
 mod turns;
 pub mod verdict;
 

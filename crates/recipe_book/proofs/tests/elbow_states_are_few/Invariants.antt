@@ -1,5 +1,0 @@
-use Rattle.recipe_book.proofs.tests.elbow_states_are_few.Given as goal
-
--- the ledger of the blank that is made here
-abbrev pub ghosts-check : goal.ghosts-check
-ghosts-check g a = record { name = a.blank.name; parts = a.blank.parts }
