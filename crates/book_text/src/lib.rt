@@ -9,8 +9,6 @@ pub mod laws;
 mod limit;
 mod outside;
 pub mod read;
-#[cfg(test)]
-mod tests;
 mod whole;
 
 pub use book_lines::LineFault;
