@@ -13,8 +13,6 @@ mod numbers;
 mod placed;
 mod salvo;
 pub mod statement;
-#[cfg(test)]
-mod tests;
 mod turn;
 pub mod words;
 
