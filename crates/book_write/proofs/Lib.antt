@@ -12,5 +12,3 @@ pub mod Stating
 pub mod Distinct
 pub mod Following
 pub mod OneWriting
--- Lemmas of the tests.
-pub mod Sampling

@@ -2,4 +2,3 @@
 pub mod Laid
 pub mod Parts
 pub mod Canonical
-pub mod Samples

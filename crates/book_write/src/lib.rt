@@ -6,8 +6,6 @@ mod kinds;
 pub mod laws;
 mod salvos;
 mod settings;
-#[cfg(test)]
-mod tests;
 mod turns;
 mod words;
 pub mod write;
