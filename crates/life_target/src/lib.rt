@@ -4,8 +4,6 @@
 pub mod laws;
 pub mod refusal;
 pub mod target;
-#[cfg(test)]
-mod tests;
 
 pub use refusal::TargetError;
 pub use target::Target;

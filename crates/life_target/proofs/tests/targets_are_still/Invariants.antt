@@ -1,5 +1,0 @@
-use Rattle.life_target.proofs.tests.targets_are_still.Given as goal
-
--- the ledger of each blank that the test makes
-abbrev pub ghosts-refusal_of : goal.ghosts-refusal_of
-ghosts-refusal_of g a = record { name = a.blank.name; parts = a.blank.parts }
