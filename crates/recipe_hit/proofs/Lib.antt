@@ -11,4 +11,3 @@ pub mod Ends
 pub mod InTurn
 pub mod Missing
 pub mod OneSalvo
-pub mod Made

@@ -15,8 +15,6 @@ pub mod refusal;
 mod rest;
 mod soundness;
 pub mod striking;
-#[cfg(test)]
-mod tests;
 
 pub use checked_salvo::{CheckedSalvo, check_salvo};
 pub use frame::HitFrame;
