@@ -8,7 +8,6 @@ pub mod Fronts
 pub mod Looking
 pub mod Refused
 pub mod Courses
-pub mod Made
 pub mod OneRefusal
 pub mod Reaching
 pub mod Trying

@@ -19,8 +19,6 @@ mod soundness;
 pub mod state_laws;
 pub mod states;
 pub mod step;
-#[cfg(test)]
-mod tests;
 
 pub use checked_kinds::{Kinds, check_kinds};
 pub use checked_turn::{CheckedTurn, check_turn};
