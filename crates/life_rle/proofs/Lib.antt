@@ -19,7 +19,6 @@ pub mod Heading
 pub mod Framing
 pub mod ReadBack
 pub mod Whole
-pub mod Samples
 pub mod WrittenFine
 pub mod WrittenLines
 pub mod OneWriting
