@@ -82,14 +82,28 @@ impl Cases {
             return self.load(depot, rest);
         }
         if word == "run" {
-            return call(self.alloc, &self.texts, &mut self.fails, rest, report, steps);
+            return call(
+                self.alloc,
+                &self.texts,
+                &mut self.fails,
+                rest,
+                report,
+                steps,
+            );
         }
         if !self.make(word, rest)? {
             return Ok(self.fails.take(word, rest)?);
         }
         if word == "line" || word == "cut" || word == "text" {
             let words = self.words.as_str();
-            return call(self.alloc, &self.texts, &mut self.fails, words, report, steps);
+            return call(
+                self.alloc,
+                &self.texts,
+                &mut self.fails,
+                words,
+                report,
+                steps,
+            );
         }
         Ok(true)
     }

@@ -63,7 +63,10 @@ fn strike<L: Ledger>(
 /// the way, and what is left.
 pub fn show_hit(report: &mut String, found: &Hit) -> Result<(), AllocError> {
     let (lane, start, generations) = (found.frame.lane, found.frame.start, found.generations);
-    write!(report, "lane {lane} start {start} generations {generations} ")?;
+    write!(
+        report,
+        "lane {lane} start {start} generations {generations} "
+    )?;
     show_box(report, found.frame.bounds)?;
     show_cells(report, "leaves", &found.after)
 }

@@ -4,10 +4,10 @@
 
 ghost use Rattle.std.specs.Prelude.{◌≡◌, ◌<◌};
 
-mod calls;
 mod books;
-mod cells;
+mod calls;
 mod cases;
+mod cells;
 mod runs;
 mod show;
 mod texts;

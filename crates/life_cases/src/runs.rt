@@ -89,7 +89,12 @@ pub fn run_life<L: Ledger>(
     steps: &mut Steps<L>,
 ) -> Result<(), NoMemory> {
     let fails = mem::replace(fails, Fails::new(alloc));
-    let Fails { fetches, out, err, .. } = fails;
+    let Fails {
+        fetches,
+        out,
+        err,
+        ..
+    } = fails;
     let mut depot = depot_of(alloc, texts, words, fetches)?;
     let mut out = MemSink::new(alloc, out);
     let mut err = MemSink::new(alloc, err);

@@ -112,12 +112,7 @@ pub fn times(alloc: Global, count: usize, text: &[u8]) -> Result<Vec<u8>, AllocE
 }
 
 /// A line for each number from the first to the last, which stands in the place of each `#`.
-pub fn numbered(
-    alloc: Global,
-    first: u32,
-    last: u32,
-    line: &str,
-) -> Result<Vec<u8>, AllocError> {
+pub fn numbered(alloc: Global, first: u32, last: u32, line: &str) -> Result<Vec<u8>, AllocError> {
     let mut text = String::new(alloc);
     for number in first..=last {
         for letter in line.chars() {
