@@ -10,7 +10,7 @@ use Rattle.life_cells.specs.declared.cell.Cell.{Cell}
 use Rattle.life_cells.specs.Cells.{Cells, alive, empty, in_order, from_list}
 use Rattle.life_cells.specs.Laws.{alive-empty, alive-in_order_at, from_list-in_order, from_list-none}
 use Rattle.life_cells.specs.Listed.{listed}
-use Rattle.life_cells.specs.Order.{same_cell-itself}
+use Rattle.life_cells.specs.OrderLaws.{same_cell-itself}
 use Rattle.rle_items.specs.declared.item.Item.{Item}
 use Rattle.rle_items.specs.declared.error.BodyError.{BodyError}
 use Rattle.rle_items.specs.declared.error.BodyError.TheVariants as refusal

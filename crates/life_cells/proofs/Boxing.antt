@@ -13,7 +13,7 @@ use Rattle.life_cells.specs.Boxes.{IsLeastBox}
 use Rattle.life_cells.specs.Cells.{cell, Cells, in_order, alive, empty}
 use Rattle.life_cells.specs.Laws.{empty_of_none, alive_of_order}
 use Rattle.life_cells.specs.Listed.{same_cell, listed}
-use Rattle.life_cells.specs.Order.{same_cell_is, same_cell-itself}
+use Rattle.life_cells.specs.OrderLaws.{same_cell_is, same_cell-itself}
 use Rattle.life_plane.specs.Plane.{Plane, union, same_plane}
 
 -- the box of one cell

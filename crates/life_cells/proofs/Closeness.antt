@@ -2,8 +2,7 @@
 use Rattle.life_cells.specs.Laws.{place_listed, alive_of_order}
 use Rattle.std.proofs.Common.{◌≡◌, ℕ, zero, suc, ◌+◌, ◌-◌, ◌<◌, ◌≤◌, Bool, true, false, List, [], ◌∷◌, length, take, drop, get_or, refl, sym, ap, subst, ◌∙◌, arith, inl, inr, w64, to_z, of_z}
 use Rattle.std.specs.Prelude.{◌==◌, ℤ, pos, negsuc, ◌+ℤ◌, ◌-ℤ◌, ◌≤ℤ◌, ◌<ℤ◌}
-use Rattle.std.specs.declared.cmp.Ordering.{Ordering}
-use Rattle.std.specs.declared.cmp.Ordering.TheVariants.{Less, Equal, Greater}
+use Rattle.std.specs.declared.cmp.Ordering.TheVariants.{Less}
 use Rattle.std.specs.Ordering.{is_lt}
 use Rattle.std.specs.List.{AllWithin, filter}
 use Rattle.std.proofs.lemmas.Int.{ints}
@@ -14,10 +13,10 @@ use Rattle.std.proofs.lemmas.List.Folds.{list_any_more}
 use Rattle.std.proofs.lemmas.Map.Keys.{Less-from_sorted}
 use Rattle.life_cells.specs.declared.cell.Cell.{Cell}
 use Rattle.life_cells.specs.Cells.{cell, cell_cmp, IsRising, Cells, in_order, alive}
-use Rattle.life_cells.specs.Close.{Close, CloseInRow, is_close_in_row, IsFirstFrom}
-use Rattle.life_cells.specs.CloseLaws.{IsCloseInRow, close_in_row_is, close_in_row_holds, some_close, close_of_some}
+use Rattle.life_cells.specs.Close.{Close, CloseInRow, is_close_in_row, IsCloseInRow, IsFirstFrom}
+use Rattle.life_cells.specs.CloseLaws.{close_in_row_is, close_in_row_holds, some_close, close_of_some}
 use Rattle.life_cells.specs.Listed.{same_cell, listed}
-use Rattle.life_cells.specs.Order.{cells_total, same_cell_is, comes_before, before_by_row, before_in_row}
+use Rattle.life_cells.specs.OrderLaws.{cells_total, same_cell_is, comes_before, before_by_row, before_in_row, less_from_test}
 use Rattle.life_plane.specs.Apart.{Apart}
 use Rattle.life_plane.specs.NumberLaws.{cases_below, lt_from_test, test_from_lt}
 use Rattle.life_plane.specs.Plane.{Plane}
@@ -31,11 +30,6 @@ pub record IsHalved (cs : List Cell) (c : Cell) (low high : ℕ) : Type 0 where
   pub before : AllWithin (λ d. cell_cmp d c ≡ Less) cs 0 low
   pub from : AllWithin (λ d. is_lt (cell_cmp d c) ≡ false) cs high (length cs)
 
-lt_is : (o : Ordering) → is_lt o ≡ true → o ≡ Less
-lt_is Less h = refl
-lt_is Equal h = cc
-lt_is Greater h = cc
-
 pub upper_half : (cs : List Cell) (c : Cell) (low high m : ℕ) (z : Cell) → IsRising cs → IsHalved cs c low high → m < high → low ≤ m → is_lt (cell_cmp (get_or cs m z) c) ≡ true → IsHalved cs c (m + 1) high
 upper_half cs c low high m z rises h lt le is = record {
   order = omega arith;
@@ -48,7 +42,7 @@ upper_half cs c low high m z rises h lt le is = record {
 }
   where
     at : (d : Cell) → cell_cmp (get_or cs m d) c ≡ Less
-    at d = ap (λ e. cell_cmp e c) (get_or_default cs m d z (omega (arith, h.within))) ∙ lt_is (cell_cmp (get_or cs m z) c) is
+    at d = ap (λ e. cell_cmp e c) (get_or_default cs m d z (omega (arith, h.within))) ∙ less_from_test (cell_cmp (get_or cs m z) c) is
 
 pub lower_half : (cs : List Cell) (c : Cell) (low high m : ℕ) (z : Cell) → IsRising cs → IsHalved cs c low high → m < high → low ≤ m → is_lt (cell_cmp (get_or cs m z) c) ≡ false → IsHalved cs c low m
 lower_half cs c low high m z rises h lt le is = record {
@@ -69,7 +63,7 @@ lower_half cs c low high m z rises h lt le is = record {
     not_so false f = refl
 
     later : (a b : Cell) → cell_cmp b a ≡ Less → is_lt (cell_cmp b c) ≡ false → is_lt (cell_cmp a c) ≡ false
-    later a b e f = not_so (is_lt (cell_cmp a c)) (λ g. let t : is_lt (cell_cmp b c) ≡ true = ap is_lt (cells_total.trans b a c e (lt_is (cell_cmp a c) g)) in absurd (cc))
+    later a b e f = not_so (is_lt (cell_cmp a c)) (λ g. let t : is_lt (cell_cmp b c) ≡ true = ap is_lt (cells_total.trans b a c e (less_from_test (cell_cmp a c) g)) in absurd (cc))
 
 pub halved_out : (cs : List Cell) (c : Cell) (low high : ℕ) → IsHalved cs c low high → high ≤ low → IsFirstFrom cs c low
 halved_out cs c low high h le = record {

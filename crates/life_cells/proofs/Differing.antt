@@ -11,7 +11,7 @@ use Rattle.life_cells.specs.Cells.{cell, cell_cmp, IsRising, Cells, in_order, al
 use Rattle.life_cells.specs.Difference.{IsFirstDifference}
 use Rattle.life_cells.specs.Listed.{listed}
 use Rattle.life_cells.specs.Laws.{listed-append_at, from_list-in_order, alive_of_order}
-use Rattle.life_cells.specs.Order.{cells_total, cells_antisymmetric, same_cell-itself}
+use Rattle.life_cells.specs.OrderLaws.{cells_total, cells_antisymmetric, same_cell-itself}
 use Rattle.life_cells.proofs.Merging.{all_after}
 
 -- a cell before all listed ones is not listed

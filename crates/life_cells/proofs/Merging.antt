@@ -10,7 +10,7 @@ use Rattle.std.proofs.Math.Bool.{or_comm, or_assoc}
 use Rattle.life_cells.specs.declared.cell.Cell.{Cell}
 use Rattle.life_cells.specs.Cells.{cell, cell_cmp, IsRising}
 use Rattle.life_cells.specs.Listed.{same_cell, listed}
-use Rattle.life_cells.specs.Order.{cells_total, cells_antisymmetric}
+use Rattle.life_cells.specs.OrderLaws.{cells_total, cells_antisymmetric}
 use Rattle.life_cells.specs.Laws.{listed-append_at}
 use Rattle.life_plane.specs.Plane.{union, same_plane}
 

@@ -11,7 +11,7 @@ use Rattle.std.proofs.lemmas.List.Sorted.{sorted_far, ranks_by}
 use Rattle.life_cells.specs.declared.cell.Cell.{Cell}
 use Rattle.life_cells.specs.Cells.{cell, cell_cmp, IsRising, Cells}
 use Rattle.life_cells.specs.Listed.{same_cell, listed, times}
-use Rattle.life_cells.specs.Order.{cells_total, same_cell_is, rising-none}
+use Rattle.life_cells.specs.OrderLaws.{cells_total, same_cell_is, rising-none}
 use Rattle.life_cells.specs.Laws.{listed-append_at}
 use Rattle.life_cells.specs.Survivors.{kept, lives_with}
 use Rattle.std.proofs.lemmas.List.{drop_all}

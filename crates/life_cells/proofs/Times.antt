@@ -11,7 +11,7 @@ use Rattle.life_cells.specs.declared.cell.Cell.{Cell}
 use Rattle.life_cells.specs.Cells.{cell, cell_cmp, IsRising}
 use Rattle.life_cells.specs.Listed.{same_cell, listed, times}
 use Rattle.life_cells.specs.Moved.{moved}
-use Rattle.life_cells.specs.Order.{same_cell_is}
+use Rattle.life_cells.specs.OrderLaws.{same_cell_is}
 use Rattle.life_cells.specs.MovedLaws.{same_cell-moved}
 use Rattle.life_plane.specs.Plane.{one_if}
 

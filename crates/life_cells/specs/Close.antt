@@ -19,6 +19,12 @@ pub record CloseInRow (s : Plane) (x y : ℤ) : Type 0 where
 abbrev pub is_close_in_row : ℤ → ℤ → Cell → Bool
 is_close_in_row x y c = int_eq c.y y && (int_le (x -ℤ pos 2) c.x && int_le c.x (x +ℤ pos 2))
 
+-- what that test says
+pub record IsCloseInRow (x y : ℤ) (c : Cell) : Type 0 where
+  pub left : (x -ℤ pos 2) ≤ℤ c.x
+  pub right : c.x ≤ℤ (x +ℤ pos 2)
+  pub row : c.y ≡ y
+
 -- i is the place of the first listed cell that does not come before c
 pub record IsFirstFrom (cs : List Cell) (c : Cell) (i : ℕ) : Type 0 where
   pub within : i ≤ length cs

@@ -1,5 +1,5 @@
 -- What the cells of a row that are close to a place say.
-use Rattle.std.specs.Prelude.{◌≡◌, true, ◌&&◌, ℤ, pos, ◌+ℤ◌, ◌-ℤ◌, ◌≤ℤ◌, int_le, List, [], ◌∷◌}
+use Rattle.std.specs.Prelude.{◌≡◌, true, ◌&&◌, ℤ, pos, ◌+ℤ◌, ◌-ℤ◌, int_le, List, [], ◌∷◌}
 use Rattle.std.specs.Ordering.{int_eq}
 use Rattle.std.specs.Cmp.{signed_Decides}
 use Rattle.std.specs.List.{filter}
@@ -9,16 +9,10 @@ use Rattle.std.proofs.lemmas.Int.{ints}
 use Rattle.std.proofs.lemmas.Map.Views.{any-filter_same}
 use Rattle.life_cells.specs.declared.cell.Cell.{Cell}
 use Rattle.life_cells.specs.Cells.{cell}
-use Rattle.life_cells.specs.Close.{CloseInRow, is_close_in_row}
+use Rattle.life_cells.specs.Close.{CloseInRow, is_close_in_row, IsCloseInRow}
 use Rattle.life_cells.specs.Listed.{same_cell, listed}
-use Rattle.life_cells.specs.Order.{same_cell_is, same_cell-itself}
+use Rattle.life_cells.specs.OrderLaws.{same_cell_is, same_cell-itself}
 use Rattle.life_plane.specs.NumberLaws.{le_from_test, test_from_le}
-
--- the cell is in row y, and at most two columns from x
-pub record IsCloseInRow (x y : ℤ) (c : Cell) : Type 0 where
-  pub left : (x -ℤ pos 2) ≤ℤ c.x
-  pub right : c.x ≤ℤ (x +ℤ pos 2)
-  pub row : c.y ≡ y
 
 -- the test, read
 pub close_in_row_is : (x y : ℤ) (c : Cell) → is_close_in_row x y c ≡ true → IsCloseInRow x y c

@@ -10,7 +10,7 @@ use Rattle.std.proofs.lemmas.Map.Keys.{Less-from_sorted}
 use Rattle.life_cells.specs.declared.cell.Cell.{Cell}
 use Rattle.life_cells.specs.Cells.{cell, cell_cmp, IsRising, Cells, alive}
 use Rattle.life_cells.specs.Listed.{listed}
-use Rattle.life_cells.specs.Order.{cells_total, cells_antisymmetric}
+use Rattle.life_cells.specs.OrderLaws.{cells_total, cells_antisymmetric}
 use Rattle.life_cells.specs.Laws.{place_of_listed}
 use Rattle.life_plane.specs.Plane.{Plane}
 use Rattle.std.specs.Option.{MatchOption, IfSome, IfNone}

@@ -14,7 +14,7 @@ use Rattle.std.proofs.Math.Facts.{yes_and}
 use Rattle.life_cells.specs.declared.cell.Cell.{Cell}
 use Rattle.life_cells.specs.Cells.{cell, cell_cmp, Cells, entry, alive, in_order, from_list, empty, IsRising}
 use Rattle.life_cells.specs.Listed.{same_cell, listed}
-use Rattle.life_cells.specs.Order.{cells_total, cells_antisymmetric, same_cell_is, same_cell-itself, rising-none}
+use Rattle.life_cells.specs.OrderLaws.{cells_total, cells_antisymmetric, same_cell_is, same_cell-itself, rising-none}
 use Rattle.life_plane.specs.Plane.{Plane, nothing, union, same_plane}
 
 -- ---- sets by what lives

@@ -1,7 +1,7 @@
 -- Cells, boxes and finite sets of cells: what contracts say of them, and the laws of these words.
 pub mod Cells
 pub mod Listed
-pub mod Order
+pub mod OrderLaws
 pub mod Laws
 pub mod Moved
 pub mod Near

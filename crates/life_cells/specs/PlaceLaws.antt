@@ -8,7 +8,7 @@ use Rattle.life_plane.specs.Plane.{Plane}
 use Rattle.life_cells.specs.declared.cell.Cell.{Cell}
 use Rattle.life_cells.specs.Cells.{cell, Cells, alive, in_order}
 use Rattle.life_cells.specs.Listed.{listed, same_cell}
-use Rattle.life_cells.specs.Order.{same_cell-itself}
+use Rattle.life_cells.specs.OrderLaws.{same_cell-itself}
 use Rattle.life_cells.specs.Laws.{alive-in_order, listed_at_place, place_of_listed}
 
 -- what a list in a set's order has at a place

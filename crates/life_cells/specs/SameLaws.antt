@@ -9,7 +9,7 @@ use Rattle.std.proofs.lemmas.Slice.Eq.{slice_eq-Decides}
 use Rattle.life_cells.specs.declared.cell.Cell.{Cell}
 use Rattle.life_cells.specs.Cells.{Cells, in_order, from_list}
 use Rattle.life_cells.specs.Listed.{same_cell}
-use Rattle.life_cells.specs.Order.{same_cell_is}
+use Rattle.life_cells.specs.OrderLaws.{same_cell_is}
 use Rattle.life_cells.specs.Laws.{from_list-in_order}
 use Rattle.life_cells.specs.Same.{same_fields, same_set, set_hash}
 

@@ -10,7 +10,7 @@ use Rattle.life_cells.specs.Boxes.{IsInRange}
 use Rattle.life_cells.specs.BoxLaws.{IsCellInRange}
 use Rattle.life_cells.specs.Laws.{alive-in_order}
 use Rattle.life_cells.specs.Listed.{same_cell, listed}
-use Rattle.life_cells.specs.Order.{same_cell_is, same_cell-itself}
+use Rattle.life_cells.specs.OrderLaws.{same_cell_is, same_cell-itself}
 use Rattle.life_plane.specs.Plane.{Plane}
 use Rattle.life_plane.specs.Strips.{Each}
 

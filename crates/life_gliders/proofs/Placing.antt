@@ -8,7 +8,7 @@ use Rattle.std.proofs.lemmas.Bool.{and_parts}
 use Rattle.life_cells.specs.declared.cell.Cell.{Cell}
 use Rattle.life_cells.specs.Cells.{cell}
 use Rattle.life_cells.specs.Listed.{listed, same_cell}
-use Rattle.life_cells.specs.Order.{same_cell_is, same_cell-itself}
+use Rattle.life_cells.specs.OrderLaws.{same_cell_is, same_cell-itself}
 use Rattle.life_plane.specs.Plane.{same_plane}
 use Rattle.life_plane.specs.Finite.{is_at, plane_of}
 use Rattle.life_plane.specs.Tracks.{stream_glider, phase}

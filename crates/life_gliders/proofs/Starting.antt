@@ -13,7 +13,7 @@ use Rattle.life_plane.specs.Tracks.{stream_glider, stream_glider_at, quartered, 
 use Rattle.life_plane.specs.Salvo.{salvo_glider, salvo_front}
 use Rattle.life_cells.specs.declared.cell.Cell.{Cell}
 use Rattle.life_cells.specs.Cells.{cell, cell_cmp}
-use Rattle.life_cells.specs.Order.{before_by_row, before_in_row}
+use Rattle.life_cells.specs.OrderLaws.{before_by_row, before_in_row}
 use Rattle.life_gliders.specs.Beyond.{IsFirstLive}
 use Rattle.life_gliders.specs.Listing.{cell_at_rest}
 use Rattle.life_gliders.specs.Starts.{first_of_phase, StartsAt}

@@ -9,7 +9,7 @@ use Rattle.indexmap.specs.IndexSet.{insert_key}
 use Rattle.life_cells.specs.declared.cell.Cell.{Cell}
 use Rattle.life_cells.specs.Laws.{listed-append_at, listed_at_place, place_of_listed}
 use Rattle.life_cells.specs.Listed.{same_cell, listed}
-use Rattle.life_cells.specs.Order.{same_cell_is}
+use Rattle.life_cells.specs.OrderLaws.{same_cell_is}
 use Rattle.life_cells.specs.Same.{same_fields}
 use Rattle.life_cells.specs.SameLaws.{same_fields_tie}
 use Rattle.life_islands.specs.Joined.{Lives}

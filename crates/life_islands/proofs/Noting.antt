@@ -12,7 +12,7 @@ use Rattle.life_cells.specs.Boxes.{IsInRange}
 use Rattle.life_cells.specs.Cells.{Cells, cell, cell_cmp, alive, from_list}
 use Rattle.life_cells.specs.Laws.{alive-from_list, place_of_listed}
 use Rattle.life_cells.specs.Listed.{listed}
-use Rattle.life_cells.specs.Order.{cells_antisymmetric}
+use Rattle.life_cells.specs.OrderLaws.{cells_antisymmetric}
 use Rattle.life_cells.specs.Same.{same_fields}
 use Rattle.life_cells.specs.declared.cell.Cell.{Cell}
 use Rattle.life_islands.specs.Islands.{IsIsland}

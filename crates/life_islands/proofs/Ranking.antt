@@ -13,7 +13,7 @@ use Rattle.life_cells.specs.Listed.{listed}
 use Rattle.std.proofs.lemmas.List.{take_more, take_all}
 use Rattle.std.proofs.lemmas.Option.{slice_get-get_or}
 use Rattle.life_cells.specs.Laws.{listed_at_place}
-use Rattle.life_cells.specs.Order.{cells_total}
+use Rattle.life_cells.specs.OrderLaws.{cells_total}
 use Rattle.life_cells.specs.declared.cell.Cell.{Cell}
 use Rattle.life_islands.specs.Joined.{Lives}
 use Rattle.life_cells.specs.Firsts.{IsFirstLive}

@@ -20,7 +20,7 @@ use Rattle.life_cells.specs.Cells.{cell, cell_cmp, IsRising}
 use Rattle.life_cells.specs.Close.{IsFirstFrom}
 use Rattle.life_cells.specs.Laws.{listed_at_place, place_of_listed}
 use Rattle.life_cells.specs.Listed.{listed}
-use Rattle.life_cells.specs.Order.{cells_total, cells_antisymmetric, comes_before, before_by_row, before_in_row}
+use Rattle.life_cells.specs.OrderLaws.{cells_total, cells_antisymmetric, comes_before, before_by_row, before_in_row}
 use Rattle.life_islands.specs.Joined.{Lives, Steps}
 use Rattle.life_islands.specs.Search.{Adds, StepsDown}
 use Rattle.life_islands.proofs.Adding.{adds_as, adds_both}

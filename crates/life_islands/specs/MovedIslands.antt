@@ -7,7 +7,7 @@ use Rattle.std.specs.declared.cmp.Ordering.TheVariants.{Less}
 use Rattle.life_cells.specs.Cells.{cell, cell_cmp, alive}
 use Rattle.life_cells.specs.Laws.{same_cells}
 use Rattle.life_cells.specs.Moved.{moved}
-use Rattle.life_cells.specs.Order.{comes_before, before_by_row, before_in_row}
+use Rattle.life_cells.specs.OrderLaws.{comes_before, before_by_row, before_in_row}
 use Rattle.life_cells.specs.declared.cell.Cell.{Cell}
 use Rattle.life_islands.specs.declared.island.Island.{Island}
 use Rattle.life_islands.specs.Islands.{IsIsland, IsNoted, IsInOne, AreIslands}

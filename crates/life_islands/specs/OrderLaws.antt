@@ -5,7 +5,7 @@ use Rattle.std.proofs.lemmas.Int.{ints}
 use Rattle.std.specs.declared.cmp.Ordering.TheVariants.{Less, Greater}
 use Rattle.std.specs.Ordering.{ordering_reverse}
 use Rattle.life_cells.specs.Cells.{alive, cell_cmp}
-use Rattle.life_cells.specs.Order.{cells_total}
+use Rattle.life_cells.specs.OrderLaws.{cells_total}
 use Rattle.life_cells.specs.declared.cell.Cell.{Cell}
 use Rattle.life_islands.specs.declared.island.Island.{Island}
 use Rattle.life_cells.specs.Firsts.{IsFirstLive}

@@ -10,7 +10,7 @@ use Rattle.life_cells.specs.declared.bounds.Bounds.{Bounds}
 use Rattle.life_cells.specs.Cells.{cell, cell_cmp, IsRising}
 use Rattle.life_cells.specs.Listed.{listed, same_cell}
 use Rattle.life_cells.specs.Boxes.{IsInRange, IsLeastBox}
-use Rattle.life_cells.specs.Order.{comes_before, rising_head, same_cell_is}
+use Rattle.life_cells.specs.OrderLaws.{comes_before, rising_head, same_cell_is}
 use Rattle.rle_items.specs.declared.item.Item.{Item}
 use Rattle.rle_items.specs.declared.item.Tag.{Tag}
 use Rattle.rle_items.specs.declared.item.Tag.TheVariants.{Dead, Alive, RowEnd}

@@ -13,7 +13,7 @@ use Rattle.life_cells.specs.Boxes.{IsInRange}
 use Rattle.life_cells.specs.Listed.{listed, same_cell}
 use Rattle.life_cells.specs.Laws.{listed-append_at}
 use Rattle.life_cells.specs.PlaceLaws.{each_listed}
-use Rattle.life_cells.specs.Order.{same_cell_is, same_cell-itself, comes_before, rising_head, rising_tail}
+use Rattle.life_cells.specs.OrderLaws.{same_cell_is, same_cell-itself, comes_before, rising_head, rising_tail}
 use Rattle.rle_items.specs.declared.item.Item.{Item}
 use Rattle.rle_items.specs.declared.item.Tag.{Tag}
 use Rattle.rle_items.specs.declared.item.Tag.TheVariants.{Dead, Alive, RowEnd}

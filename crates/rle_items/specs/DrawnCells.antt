@@ -9,7 +9,7 @@ use Rattle.life_plane.specs.Plane.{Plane, same_plane}
 use Rattle.life_cells.specs.declared.cell.Cell.{Cell}
 use Rattle.life_cells.specs.Cells.{cell, cell_cmp, IsRising}
 use Rattle.life_cells.specs.Listed.{same_cell, listed}
-use Rattle.life_cells.specs.Order.{same_cell_is, same_cell-itself, comes_before, before_by_row, before_in_row, rising_push, rising-none}
+use Rattle.life_cells.specs.OrderLaws.{same_cell_is, same_cell-itself, comes_before, before_by_row, before_in_row, rising_push, rising-none}
 use Rattle.life_cells.specs.Laws.{listed-append_at}
 use Rattle.rle_items.specs.declared.item.Item.{Item}
 use Rattle.rle_items.specs.declared.item.Tag.{Tag}

@@ -1,7 +1,7 @@
 use Rattle.std.proofs.Common.{subst, sym, ap, ◌∙◌, arith}
 use Rattle.life_cells.specs.Cells.{IsRising}
 use Rattle.life_cells.specs.Listed.{listed}
-use Rattle.life_cells.specs.Order.{rising-none}
+use Rattle.life_cells.specs.OrderLaws.{rising-none}
 use Rattle.life_cells.proofs.Runs.{walk_ends, rising-kept_runs, listed-kept_runs, ascends_from_sorted, lives_with-none}
 use Rattle.life_cells.proofs.survivors.survivors.Goals as goal
 

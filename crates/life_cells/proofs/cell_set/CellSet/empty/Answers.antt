@@ -1,5 +1,5 @@
 use Rattle.life_cells.specs.Laws.{from_list-none}
-use Rattle.life_cells.specs.Order.{rising-none}
+use Rattle.life_cells.specs.OrderLaws.{rising-none}
 use Rattle.life_cells.proofs.cell_set.CellSet.empty.Goals as goal
 
 pub invariant_of-result : goal.invariant_of-result

@@ -4,7 +4,7 @@ use Rattle.std.proofs.lemmas.List.Kept.{IsStrictlySortedBy-dedup, Contains-dedup
 use Rattle.std.proofs.lemmas.List.Sorted.{Contains-permutation, IsPermutation-sym}
 use Rattle.life_cells.specs.Cells.{from_list}
 use Rattle.life_cells.specs.Laws.{same_lists}
-use Rattle.life_cells.specs.Order.{cells_total}
+use Rattle.life_cells.specs.OrderLaws.{cells_total}
 use Rattle.life_cells.specs.SameLaws.{same_fields_tie, same_fields_equiv, same_fields_is}
 use Rattle.life_cells.proofs.Places.{same_listed}
 use Rattle.life_cells.proofs.cell_set.CellSet.from_cells.Goals as goal

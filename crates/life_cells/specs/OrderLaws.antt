@@ -1,8 +1,8 @@
--- The order of cells.
+-- The laws of the order of cells.
 use Rattle.std.specs.Prelude.{◌≡◌, true, ◌⊎◌, ◌-◌, ◌<◌, ◌<ℤ◌, List, [], ◌∷◌, ◌++◌, length}
 use Rattle.std.specs.declared.cmp.Ordering.{Ordering}
 use Rattle.std.specs.declared.cmp.Ordering.TheVariants.{Less, Equal, Greater}
-use Rattle.std.specs.Ordering.{int_cmp, ordering_then, is_eq}
+use Rattle.std.specs.Ordering.{int_cmp, ordering_then, ordering_reverse, is_lt, is_eq}
 use Rattle.std.specs.Cmp.{IsTotalOrder, then_total, on_total, int_cmp_total, int_ranked, int_cmp_is, tied_itself, Equal-is}
 use Rattle.std.specs.List.{AllByRecursion}
 use Rattle.std.specs.List.Sorted.{IsStrictlySortedBy}
@@ -18,15 +18,24 @@ use Rattle.life_cells.specs.Listed.{same_cell}
 pub cells_total : IsTotalOrder cell_cmp
 cells_total = then_total (on_total (λ (c : Cell). c.y) int_cmp_total) (on_total (λ (c : Cell). c.x) int_cmp_total)
 
-tied_first : (a b : Ordering) → ordering_then a b ≡ Equal → a ≡ Equal
+pub tied_first : (a b : Ordering) → ordering_then a b ≡ Equal → a ≡ Equal
 tied_first Less b h = h
 tied_first Equal b h = refl
 tied_first Greater b h = h
 
-tied_second : (a b : Ordering) → ordering_then a b ≡ Equal → b ≡ Equal
+pub tied_second : (a b : Ordering) → ordering_then a b ≡ Equal → b ≡ Equal
 tied_second Less b h = cc
 tied_second Equal b h = h
 tied_second Greater b h = cc
+
+-- what a test of the order says, and the order turned round
+pub less_from_test : (o : Ordering) → is_lt o ≡ true → o ≡ Less
+less_from_test Less h = refl
+less_from_test Equal h = cc
+less_from_test Greater h = cc
+
+pub turned : (a b : Cell) (o : Ordering) → cell_cmp a b ≡ o → cell_cmp b a ≡ ordering_reverse o
+turned a b o e = cells_total.antisymm b a ∙ ap ordering_reverse e
 
 -- only equal cells tie
 pub cells_antisymmetric : IsAntisymmetric cell_cmp
