@@ -1,4 +1,5 @@
 -- The parts of a recipe book.
 pub mod Limits
+pub mod Said
 pub mod Proper
 pub mod Kinds

@@ -12,7 +12,7 @@ use Rattle.book_parts.specs.declared.turn.RawTurn.{RawTurn}
 use Rattle.book_parts.specs.declared.turn.TurnEnd.{TurnEnd}
 use Rattle.book_parts.specs.declared.turn.TurnEnd.TheVariants.{Close, Move, Emit}
 use Rattle.book_parts.specs.declared.salvo.RawSalvo.{RawSalvo}
-use Rattle.book_parts.specs.declared.book.RawBook.{RawBook}
+use Rattle.book_parts.specs.Said.{Said}
 
 -- a plane with a live cell
 abbrev pub HasLife : Plane → Type 0
@@ -82,27 +82,27 @@ AreDistinct [] = Unit {0}
 AreDistinct (name ∷ names) = IsNoneOf names name × AreDistinct names
 
 -- the live cells of all bodies
-abbrev pub live_cells : RawBook → ℕ
+abbrev pub live_cells : Said → ℕ
 live_cells book =
-    length (in_order book.hand) + (sum_by (λ (kind : RawKind). length (in_order kind.cells)) book.kinds.items
-    + sum_by (λ (salvo : RawSalvo). length (in_order salvo.product)) book.salvos.items)
+    length (in_order book.hand) + (sum_by (λ (kind : RawKind). length (in_order kind.cells)) book.kinds
+    + sum_by (λ (salvo : RawSalvo). length (in_order salvo.product)) book.salvos)
 
 -- the names of turns and salvos
-abbrev pub entry_names : RawBook → List (List ℕ)
-entry_names book = map (λ (turn : RawTurn). turn.name) book.turns.items ++ map (λ (salvo : RawSalvo). salvo.name) book.salvos.items
+abbrev pub entry_names : Said → List (List ℕ)
+entry_names book = map (λ (turn : RawTurn). turn.name) book.turns ++ map (λ (salvo : RawSalvo). salvo.name) book.salvos
 
 -- A whole book: its parts are proper, its counts within the limits, and its names distinct.
-pub record IsProperBook (book : RawBook) : Type 0 where
+pub record IsProperBook (book : Said) : Type 0 where
   pub settings : AreProper book.settings
   pub hand : IsProperHand (alive book.hand)
-  pub some_kind : 0 < length book.kinds.items
-  pub few_kinds : length book.kinds.items ≤ 256
-  pub kinds : AllByRecursion IsProperKind book.kinds.items
-  pub kind_names : AreDistinct (map (λ (kind : RawKind). kind.name) book.kinds.items)
-  pub start : IsKindNumber (length book.kinds.items) book.start
-  pub few_turns : length book.turns.items ≤ 1024
-  pub turns : AllByRecursion (IsProperTurn (length book.kinds.items)) book.turns.items
-  pub few_salvos : length book.salvos.items ≤ 4096
-  pub salvos : AllByRecursion IsProperSalvo book.salvos.items
+  pub some_kind : 0 < length book.kinds
+  pub few_kinds : length book.kinds ≤ 256
+  pub kinds : AllByRecursion IsProperKind book.kinds
+  pub kind_names : AreDistinct (map (λ (kind : RawKind). kind.name) book.kinds)
+  pub start : IsKindNumber (length book.kinds) book.start
+  pub few_turns : length book.turns ≤ 1024
+  pub turns : AllByRecursion (IsProperTurn (length book.kinds)) book.turns
+  pub few_salvos : length book.salvos ≤ 4096
+  pub salvos : AllByRecursion IsProperSalvo book.salvos
   pub names : AreDistinct (entry_names book)
   pub few_cells : live_cells book ≤ 2 ^ 18

@@ -5,9 +5,10 @@ use crate::salvo::RawSalvo;
 use crate::settings::Settings;
 use crate::turn::RawTurn;
 use life_cells::CellSet;
+use std::marker::Model;
 
-/// A book, as a text states it.
-#[derive(Debug, Drop, PartialEq, Eq)]
+/// A book, as a text states it. Contracts see what it says.
+#[derive(Debug, Drop)]
 pub struct RawBook {
     /// What holds for all of it.
     pub settings: Settings,
@@ -21,4 +22,14 @@ pub struct RawBook {
     pub turns: Vec<RawTurn>,
     /// The salvos, in order.
     pub salvos: Vec<RawSalvo>,
+}
+
+impl Model for RawBook {
+    ghost use Rattle.book_parts.specs.Said.{Said, coded_said};
+
+    ghost Value = { Said };
+
+    ghost coded = { coded_said };
+
+    ghost view = { λ b. record { settings = b.settings; hand = b.hand; kinds = b.kinds.items; start = b.start; turns = b.turns.items; salvos = b.salvos.items } };
 }

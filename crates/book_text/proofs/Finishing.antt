@@ -1,17 +1,15 @@
 -- From the parts of a text to the text.
 use Rattle.std.proofs.Common.{◌≡◌, ◌≢◌, ℕ, pos, ◌+ℤ◌, ◌≤ℤ◌, List, [], Result, Ok, Err, IfOk, IfErr, sym, subst}
 use Rattle.std.specs.Str.Lines.{lines}
-use Rattle.book_parts.specs.declared.settings.Settings.{Settings}
 use Rattle.book_parts.specs.Proper.{IsProperBook}
-use Rattle.book_text.proofs.Sound.{text_proper, proper_book}
-use Rattle.book_parts.specs.declared.book.RawBook.{RawBook}
+use Rattle.book_text.proofs.Sound.{text_proper}
 use Rattle.book_lines.specs.declared.fault.LineFault.{LineFault}
 use Rattle.book_lines.specs.declared.fault.LineFault.TheVariants as fault
 use Rattle.book_text.specs.declared.error.BookError.{BookError}
 use Rattle.book_text.specs.declared.error.BookError.TheVariants.{BadLine, Doubled, UnknownKind, LimitOver, Missing, WallReach, Memory}
 use Rattle.book_text.specs.Stated.{Stated, nothing_stated}
 use Rattle.book_text.specs.Reading.{AreFine, IsBegun}
-use Rattle.book_text.specs.Book.{Said, whole, AreRead, Says, StopsWith, IsBook}
+use Rattle.book_text.specs.Book.{Said, whole, AreRead, Says, StopsWith}
 use Rattle.book_text.specs.Drafted.{IsBodyRefusal, IsVersionRefusal, IsUnfinished}
 
 pub begun_refused : (text : List ℕ) (e : BookError) → IsVersionRefusal (lines text) e → StopsWith text e
@@ -50,17 +48,14 @@ unfinished_refused text stated (Doubled line) r h = absurd h
 unfinished_refused text stated (UnknownKind line) r h = absurd h
 unfinished_refused text stated (LimitOver line z) r h = absurd h
 
-pub finished_err : (text : List ℕ) (stated : Stated) (r : Result RawBook BookError) → AreRead (lines text) stated → IfErr r (λ e. IsUnfinished stated e) → IfErr r (λ e. StopsWith text e)
+pub finished_err : (text : List ℕ) (stated : Stated) (r : Result Said BookError) → AreRead (lines text) stated → IfErr r (λ e. IsUnfinished stated e) → IfErr r (λ e. StopsWith text e)
 finished_err text stated (Ok book) read h = tt
 finished_err text stated (Err e) read h = unfinished_refused text stated e read h
 
-pub finished_ok : (text : List ℕ) (stated : Stated) (r : Result RawBook BookError) → AreRead (lines text) stated → IfOk r (λ book. (said : Said) × ((stated ≡ whole said) × ((said.kinds ≢ []) × IsBook said book)))
-    → IfOk r (λ book. (said : Said) × (Says text said × IsBook said book))
-finished_ok text stated (Ok book) read h = (h.0, (record { read = subst (λ (s : Stated). AreRead (lines text) s) h.1.0 read; some_kind = h.1.1.0 }, h.1.1.1))
+pub finished_ok : (text : List ℕ) (stated : Stated) (r : Result Said BookError) → AreRead (lines text) stated → IfOk r (λ book. (stated ≡ whole book) × (book.kinds ≢ [])) → IfOk r (λ book. Says text book)
+finished_ok text stated (Ok book) read h = record { read = subst (λ (s : Stated). AreRead (lines text) s) h.0 read; some_kind = h.1 }
 finished_ok text stated (Err e) read h = tt
 
-pub finished_proper : (text : List ℕ) (r : Result RawBook BookError) → IfOk r (λ book. (said : Said) × (Says text said × IsBook said book)) → IfOk r (λ book. (book.settings.wall +ℤ pos 9) ≤ℤ book.settings.reach)
-    → IfOk r (λ book. IsProperBook book)
-finished_proper text (Ok book) h far =
-    proper_book h.0 book (text_proper text h.0 h.1.0 (subst (λ (s : Settings). (s.wall +ℤ pos 9) ≤ℤ s.reach) h.1.1.settings far)) h.1.1
+pub finished_proper : (text : List ℕ) (r : Result Said BookError) → IfOk r (λ book. Says text book) → IfOk r (λ book. (book.settings.wall +ℤ pos 9) ≤ℤ book.settings.reach) → IfOk r (λ book. IsProperBook book)
+finished_proper text (Ok book) h far = text_proper text book h far
 finished_proper text (Err e) h far = tt

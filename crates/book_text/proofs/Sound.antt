@@ -17,7 +17,6 @@ use Rattle.book_parts.specs.declared.turn.RawTurn.{RawTurn}
 use Rattle.book_parts.specs.declared.turn.TurnEnd.{TurnEnd}
 use Rattle.book_parts.specs.declared.turn.TurnEnd.TheVariants as ending
 use Rattle.book_parts.specs.declared.salvo.RawSalvo.{RawSalvo}
-use Rattle.book_parts.specs.declared.book.RawBook.{RawBook}
 use Rattle.book_lines.specs.declared.statement.Body.{Body}
 use Rattle.book_lines.specs.declared.statement.Body.TheVariants.{Drawn, TooMany}
 use Rattle.book_lines.specs.declared.statement.Placed.{Placed}
@@ -33,8 +32,7 @@ use Rattle.book_text.specs.Names.{number_from, number_of, known_number}
 use Rattle.book_text.specs.Stated.{cells_of, kind_of, end_of, turn_of, product_of, salvo_of}
 use Rattle.book_text.specs.Limited.{cell_numbers, body_numbers, leaves_numbers, product_numbers, place_numbers, stated_cells, hand_count}
 use Rattle.book_text.specs.Joining.{IsNew, KnowsKinds, kind_names, entry_names, kinds_left}
-use Rattle.book_text.specs.Book.{Said, whole, Says, IsBook}
-use Rattle.book_text.specs.ProperSaid.{IsProperSaid}
+use Rattle.book_text.specs.Book.{Said, whole, Says}
 use Rattle.book_text.proofs.Counted.{behind_none, few, cells_counted, product_counted}
 use Rattle.std.specs.List.{AllByRecursion}
 use Rattle.std.proofs.lemmas.Int.{ints}
@@ -490,7 +488,7 @@ some_kinds [] h = absurd (h refl)
 some_kinds (k ∷ kinds) h = omega arith
 
 -- what a text says is proper, where the reach is far enough
-pub text_proper : (text : List ℕ) (said : Said) → Says text said → (said.settings.wall +ℤ pos 9) ≤ℤ said.settings.reach → IsProperSaid said
+pub text_proper : (text : List ℕ) (said : Said) → Says text said → (said.settings.wall +ℤ pos 9) ≤ℤ said.settings.reach → IsProperBook said
 text_proper text said says far =
     let sound = sound_fine nothing_stated says.read.body (whole said) nothing_sound says.read.fine in
     let s = sound.settings in
@@ -519,26 +517,3 @@ text_proper text said says far =
       names = sound.names;
       few_cells = sound.few_cells;
     }
-
--- and so is a book that has it
-pub proper_book : (said : Said) (book : RawBook) → IsProperSaid said → IsBook said book → IsProperBook book
-proper_book said book proper is = record {
-  settings = subst AreProper (sym is.settings) proper.settings;
-  hand = subst (λ (h : Cells). IsProperHand (alive h)) (sym is.hand) proper.hand;
-  some_kind = subst (λ (ks : List RawKind). 0 < length ks) (sym is.kinds) proper.some_kind;
-  few_kinds = subst (λ (ks : List RawKind). length ks ≤ 256) (sym is.kinds) proper.few_kinds;
-  kinds = subst (λ (ks : List RawKind). AllByRecursion IsProperKind ks) (sym is.kinds) proper.kinds;
-  kind_names = subst (λ (ks : List RawKind). AreDistinct (map (λ (kind : RawKind). kind.name) ks)) (sym is.kinds) proper.kind_names;
-  start = subst (λ (n : ℕ). IsKindNumber (length book.kinds.items) n) (sym is.start) (subst (λ (ks : List RawKind). IsKindNumber (length ks) said.start) (sym is.kinds) proper.start);
-  few_turns = subst (λ (ts : List RawTurn). length ts ≤ 1024) (sym is.turns) proper.few_turns;
-  turns = subst (λ (ts : List RawTurn). AllByRecursion (IsProperTurn (length book.kinds.items)) ts) (sym is.turns) (subst (λ (ks : List RawKind). AllByRecursion (IsProperTurn (length ks)) said.turns) (sym is.kinds) proper.turns);
-  few_salvos = subst (λ (ss : List RawSalvo). length ss ≤ 4096) (sym is.salvos) proper.few_salvos;
-  salvos = subst (λ (ss : List RawSalvo). AllByRecursion IsProperSalvo ss) (sym is.salvos) proper.salvos;
-  names = subst AreDistinct (λ i. map (λ (turn : RawTurn). turn.name) (sym is.turns i) ++ map (λ (salvo : RawSalvo). salvo.name) (sym is.salvos i)) proper.names;
-  few_cells =
-      let hand = ap (λ (h : Cells). length (in_order h)) is.hand in
-      let kinds = ap (λ (ks : List RawKind). sum_by (λ (kind : RawKind). length (in_order kind.cells)) ks) is.kinds in
-      let salvos = ap (λ (ss : List RawSalvo). sum_by (λ (salvo : RawSalvo). length (in_order salvo.product)) ss) is.salvos in
-      let cells = proper.few_cells in
-      omega arith;
-}

@@ -2,27 +2,12 @@
 use Rattle.std.specs.Prelude.{◌≡◌, ◌≢◌, ℕ, ◌+ℤ◌, ◌<ℤ◌, pos, List, []}
 use Rattle.std.specs.Str.Lines.{lines}
 use Rattle.std.specs.declared.option.Option.TheVariants.{Some}
-use Rattle.life_cells.specs.Cells.{Cells}
-use Rattle.book_parts.specs.declared.settings.Settings.{Settings}
-use Rattle.book_parts.specs.declared.kind.RawKind.{RawKind}
-use Rattle.book_parts.specs.declared.turn.RawTurn.{RawTurn}
-use Rattle.book_parts.specs.declared.salvo.RawSalvo.{RawSalvo}
-use Rattle.book_parts.specs.declared.book.RawBook.{RawBook}
+pub use Rattle.book_parts.specs.Said.{Said}
 use Rattle.book_lines.specs.declared.fault.LineFault.TheVariants as fault
 use Rattle.book_text.specs.declared.error.BookError.{BookError}
 use Rattle.book_text.specs.declared.error.BookError.TheVariants.{BadLine, Missing, WallReach, Memory}
 use Rattle.book_text.specs.Stated.{Stated, nothing_stated}
 use Rattle.book_text.specs.Reading.{AreFine, IsBegun, HasNoVersion, IsRefusedAmong, book_words, IsFirstMissing}
-
--- what the lines of a text say
-pub record Said : Type 0 where
-  pub settings : Settings
-  pub hand : Cells
-  pub kinds : List RawKind
-  -- the number of the kind that the stream begins at, counted from 1
-  pub start : ℕ
-  pub turns : List RawTurn
-  pub salvos : List RawSalvo
 
 -- all that a book says is stated
 abbrev pub whole : Said → Stated
@@ -72,12 +57,3 @@ StopsWith text (Missing missing) = (stated : Stated) × (AreRead (lines text) st
 StopsWith text (WallReach wall reach) = (said : Said) × (Says text said × ((said.settings.wall ≡ wall) × ((said.settings.reach ≡ reach) × (reach <ℤ (wall +ℤ pos 9)))))
 StopsWith text Memory = Unit {0}
 StopsWith text other = StopsInLine (lines text) other
-
--- the book has what the lines say
-pub record IsBook (said : Said) (book : RawBook) : Type 0 where
-  pub settings : book.settings ≡ said.settings
-  pub hand : book.hand ≡ said.hand
-  pub kinds : book.kinds.items ≡ said.kinds
-  pub start : book.start ≡ said.start
-  pub turns : book.turns.items ≡ said.turns
-  pub salvos : book.salvos.items ≡ said.salvos

@@ -6,4 +6,3 @@ pub mod Joining
 pub mod Reading
 pub mod Book
 pub mod Drafted
-pub mod ProperSaid

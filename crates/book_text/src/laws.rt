@@ -2,8 +2,8 @@
 //! its definition says.
 
 ghost use Rattle.std.specs.Prelude.{◌≡◌, ◌≢◌, ℕ, List, ◌+ℤ◌, ◌≤ℤ◌, pos};
+ghost use Rattle.book_parts.specs.Proper.{IsProperBook};
 ghost use Rattle.book_text.specs.Book.{Said, Says, StopsWith};
-ghost use Rattle.book_text.specs.ProperSaid.{IsProperSaid};
 ghost use Rattle.book_text.specs.declared.error.BookError.{BookError};
 
 use crate::error::BookError;
@@ -38,5 +38,5 @@ pub fn books_have_no_refusal()
 
 /// What a text says is proper, where the reach is far enough.
 pub fn texts_say_proper_books()
-    ensures { (text : List ℕ) (said : Said) → Says text said → (said.settings.wall +ℤ pos 9) ≤ℤ said.settings.reach → IsProperSaid said }
+    ensures { (text : List ℕ) (said : Said) → Says text said → (said.settings.wall +ℤ pos 9) ≤ℤ said.settings.reach → IsProperBook said }
 {}

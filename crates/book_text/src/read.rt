@@ -11,7 +11,7 @@ ghost use Rattle.book_lines.specs.Counts.{HasSmallCounts};
 ghost use Rattle.book_text.specs.Stated.{Stated, nothing_stated, joined};
 ghost use Rattle.book_text.specs.Joining.{IsFine};
 ghost use Rattle.book_text.specs.Reading.{AreFine, IsVersion, IsBegun, HasNoVersion};
-ghost use Rattle.book_text.specs.Book.{Said, Says, IsBook, StopsWith};
+ghost use Rattle.book_text.specs.Book.{Says, StopsWith};
 ghost use Rattle.book_text.specs.Drafted.{stated_of, IsKept, IsLineRefusal, IsBodyRefusal, IsTaken, IsOtherLine, IsVersionRefusal};
 
 use crate::draft::Draft;
@@ -41,7 +41,7 @@ struct Begun<'a> {
 /// The refusal of the first faulty line; where there is none, the first word that is missing, or a reach too near the wall;
 /// or want of memory.
 pub fn read_book(alloc: Global, text: &[u8]) -> Result<RawBook, BookError>
-    ensures ok { IfOk result (λ book. (said : Said) × (Says text.now said × IsBook said book)) }
+    ensures ok { IfOk result (λ book. Says text.now book) }
     ensures proper { IfOk result (λ book. IsProperBook book) }
     ensures err { IfErr result (λ e. StopsWith text.now e) }
 {

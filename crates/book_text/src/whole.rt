@@ -3,7 +3,7 @@
 ghost use Rattle.std.specs.Prelude.{◌≡◌, ◌≢◌, [], pos, ◌+ℤ◌, ◌≤ℤ◌, IfOk, IfErr, IfSome};
 ghost use Rattle.book_parts.specs.Limits.{IsFrom};
 ghost use Rattle.book_text.specs.Reading.{book_words, IsFirstMissing};
-ghost use Rattle.book_text.specs.Book.{Said, whole, IsBook};
+ghost use Rattle.book_text.specs.Book.{whole};
 ghost use Rattle.book_text.specs.Drafted.{stated_of, HasSettings, IsUnfinished};
 
 use crate::draft::Draft;
@@ -16,7 +16,7 @@ const WALL_MARGIN: i64 = 9;
 /// The book that is stated.
 pub fn book_of(draft: Draft) -> Result<RawBook, BookError>
     requires { IfSome (stated_of draft).wall (λ z. IsFrom (pos 1) (pos 4096) z) }
-    ensures ok { IfOk result (λ book. (said : Said) × ((stated_of draft ≡ whole said) × ((said.kinds ≢ []) × IsBook said book))) }
+    ensures ok { IfOk result (λ book. (stated_of draft ≡ whole book) × (book.kinds ≢ [])) }
     ensures far { IfOk result (λ book. (book.settings.wall +ℤ pos 9) ≤ℤ book.settings.reach) }
     ensures err { IfErr result (λ e. IsUnfinished (stated_of draft) e) }
 {

@@ -15,7 +15,7 @@ use Rattle.book_parts.specs.declared.turn.RawTurn.{RawTurn}
 use Rattle.book_parts.specs.declared.turn.TurnEnd.{TurnEnd}
 use Rattle.book_parts.specs.declared.turn.TurnEnd.TheVariants as ending
 use Rattle.book_parts.specs.declared.salvo.RawSalvo.{RawSalvo}
-use Rattle.book_parts.specs.declared.book.RawBook.{RawBook}
+use Rattle.book_parts.specs.Said.{Said}
 use Rattle.book_lines.specs.declared.statement.Body.TheVariants.{Drawn}
 use Rattle.book_lines.specs.declared.statement.Statement.{Statement}
 use Rattle.book_lines.specs.declared.statement.Statement.TheVariants.{Approach, Wall, Reach, Corner, Room, Span, Lanes, Delays, Hand, Elbow, Start, Turn, Salvo}
@@ -26,7 +26,7 @@ use Rattle.book_text.specs.Limited.{held, leaves_numbers, place_numbers, product
 use Rattle.book_text.specs.Names.{number_of}
 use Rattle.book_text.specs.Joining.{IsNew, KnowsKinds, kinds_left}
 use Rattle.book_text.specs.Reading.{AreFine}
-use Rattle.book_text.specs.Book.{Said, Says, IsBook}
+use Rattle.book_text.specs.Book.{Says}
 use Rattle.book_write.specs.Laid.{line_of}
 use Rattle.book_write.specs.Parts.{version_words, settings_words, IsHandLine, IsKindLine, kind_name, start_words, turn_words, IsSalvoLine}
 use Rattle.book_write.specs.Canonical.{IsBookText}
@@ -67,7 +67,7 @@ lines_both a b c ls ms h k = record {
 -- ---- settings
 
 -- what is stated with the settings, the hand, and these
-abbrev told : RawBook → List RawKind → Option ℕ → List RawTurn → List RawSalvo → Stated
+abbrev told : Said → List RawKind → Option ℕ → List RawTurn → List RawSalvo → Stated
 told book kinds start turns salvos = record {
   approach = Some book.settings.approach;
   wall = Some book.settings.wall;
@@ -110,10 +110,10 @@ zero_few a s k t v d l c = record { kinds = omega arith; turns = omega arith; sa
 one_few : (a : Stated) (s : Statement) (n : ℕ) → length (joined a s).kinds ≡ 0 → length (joined a s).turns ≡ 0 → length (joined a s).salvos ≡ 0 → delay_count s ≡ 0 → lane_count s ≡ 0 → stated_cells a + cell_count s ≡ n → n ≤ 2 ^ 18 → AreFew a s
 one_few a s n k t v d l c h = record { kinds = omega arith; turns = omega arith; salvos = omega arith; delays = omega arith; lanes = omega arith; cells = omega arith }
 
-hand_few : (book : RawBook) → IsProperBook book → length (in_order book.hand) ≤ 2 ^ 18
+hand_few : (book : Said) → IsProperBook book → length (in_order book.hand) ≤ 2 ^ 18
 hand_few book p = let few = p.few_cells in omega arith
 
-settings_fine : (book : RawBook) (hand : List (List ℕ)) → IsProperBook book → IsHandLine book.hand hand → AreFineFor nothing_stated (settings_words book.settings ++ (hand ∷ [])) (told book [] None [] [])
+settings_fine : (book : Said) (hand : List (List ℕ)) → IsProperBook book → IsHandLine book.hand hand → AreFineFor nothing_stated (settings_words book.settings ++ (hand ∷ [])) (told book [] None [] [])
 settings_fine book hand p h =
     let s : Settings = book.settings in
     let q = p.settings in
@@ -139,17 +139,17 @@ settings_fine book hand p h =
 
 -- ---- kinds
 
-kinds_fine : (book : RawBook) → IsProperBook book → (front back : List RawKind) (ls : List (List (List ℕ))) → book.kinds.items ≡ front ++ back → AllByRecursion IsProperKind back → AllZip IsKindLine back ls
-    → AreFineFor (told book front None [] []) ls (told book book.kinds.items None [] [])
+kinds_fine : (book : Said) → IsProperBook book → (front back : List RawKind) (ls : List (List (List ℕ))) → book.kinds ≡ front ++ back → AllByRecursion IsProperKind back → AllZip IsKindLine back ls
+    → AreFineFor (told book front None [] []) ls (told book book.kinds None [] [])
 kinds_fine book p front [] [] e h z = no_lines _ _ (ap (λ (ks : List RawKind). told book ks None [] []) (e ∙ append-nil front))
 kinds_fine book p front [] (words ∷ ls) e h z = absurd z
 kinds_fine book p front (kind ∷ back) [] e h z = absurd z
 kinds_fine book p front (kind ∷ back) (words ∷ ls) e h z =
     let many : List RawKind → ℕ = sum_by (λ (k : RawKind). length (in_order k.cells)) in
     let total = p.few_cells in
-    let parts : many book.kinds.items ≡ many front + (length (in_order kind.cells) + many back) = ap many e ∙ sum_by-append (λ (k : RawKind). length (in_order k.cells)) front (kind ∷ back) ∙ ap (λ (n : ℕ). many front + n) (sum_by-cons (λ (k : RawKind). length (in_order k.cells)) kind back) in
+    let parts : many book.kinds ≡ many front + (length (in_order kind.cells) + many back) = ap many e ∙ sum_by-append (λ (k : RawKind). length (in_order k.cells)) front (kind ∷ back) ∙ ap (λ (n : ℕ). many front + n) (sum_by-cons (λ (k : RawKind). length (in_order k.cells)) kind back) in
     let few_kinds = p.few_kinds in
-    let size : length book.kinds.items ≡ length front + suc (length back) = ap length e ∙ length-append front (kind ∷ back) in
+    let size : length book.kinds ≡ length front + suc (length back) = ap length e ∙ length-append front (kind ∷ back) in
     let size_on : length (front ++ (kind ∷ [])) ≡ length front + 1 = length-append front (kind ∷ []) in
     let r = kind_line kind words z.0 h.0 (omega arith) in
     let names = ap (map (λ (k : RawKind). k.name)) e ∙ map-append (λ (k : RawKind). k.name) front (kind ∷ back) in
@@ -160,9 +160,9 @@ kinds_fine book p front (kind ∷ back) (words ∷ ls) e h z =
 
 -- ---- the start
 
-start_fine : (book : RawBook) → IsProperBook book → AreFineFor (told book book.kinds.items None [] []) (start_words book.kinds.items book.start ∷ []) (told book book.kinds.items (Some book.start) [] [])
+start_fine : (book : Said) → IsProperBook book → AreFineFor (told book book.kinds None [] []) (start_words book.kinds book.start ∷ []) (told book book.kinds (Some book.start) [] [])
 start_fine book p =
-    let kinds : List RawKind = book.kinds.items in
+    let kinds : List RawKind = book.kinds in
     let name = kind_name kinds book.start in
     let known = kind_known kinds book.start p.start p.kind_names in
     let total = p.few_cells in
@@ -199,28 +199,28 @@ ending_held kinds ending.Close n p h = (len_held 0 65536 n (omega arith) h, tt)
 ending_held kinds (ending.Move kind shift) n p h = (p.1, (len_held 0 65536 n (omega arith) h, tt))
 ending_held kinds (ending.Emit kind shift lane j) n p h = (p.1.0, (len_held 0 65536 n (omega arith) h, (p.1.1.0, (p.1.1.1, tt))))
 
-turns_fine : (book : RawBook) → IsProperBook book → (front back : List RawTurn) → book.turns.items ≡ front ++ back → AllByRecursion (IsProperTurn (length book.kinds.items)) back
-    → AreFineFor (told book book.kinds.items (Some book.start) front []) (map (turn_words book.kinds.items) back) (told book book.kinds.items (Some book.start) book.turns.items [])
-turns_fine book p front [] e h = no_lines _ _ (ap (λ (ts : List RawTurn). told book book.kinds.items (Some book.start) ts []) (e ∙ append-nil front))
+turns_fine : (book : Said) → IsProperBook book → (front back : List RawTurn) → book.turns ≡ front ++ back → AllByRecursion (IsProperTurn (length book.kinds)) back
+    → AreFineFor (told book book.kinds (Some book.start) front []) (map (turn_words book.kinds) back) (told book book.kinds (Some book.start) book.turns [])
+turns_fine book p front [] e h = no_lines _ _ (ap (λ (ts : List RawTurn). told book book.kinds (Some book.start) ts []) (e ∙ append-nil front))
 turns_fine book p front (turn ∷ back) e h =
-    let kinds : List RawKind = book.kinds.items in
+    let kinds : List RawKind = book.kinds in
     let a = told book kinds (Some book.start) front [] in
     let s = Turn (turn_told kinds turn) in
     let total = p.few_cells in
     let few_kinds = p.few_kinds in
     let few_turns = p.few_turns in
     let few_delays = h.0.few in
-    let size : length book.turns.items ≡ length front + suc (length back) = ap length e ∙ length-append front (turn ∷ back) in
+    let size : length book.turns ≡ length front + suc (length back) = ap length e ∙ length-append front (turn ∷ back) in
     let size_on : length (front ++ (turn_of kinds (turn_told kinds turn) ∷ [])) ≡ length front + 1 = length-append front (turn_of kinds (turn_told kinds turn) ∷ []) in
     let name = λ (t : RawTurn). t.name in
-    let names = ap (λ (ns : List (List ℕ)). ns ++ map (λ (salvo : RawSalvo). salvo.name) book.salvos.items) (ap (map name) e ∙ map-append name front (turn ∷ back)) ∙ append_assoc (map name front) (turn.name ∷ map name back) (map (λ (salvo : RawSalvo). salvo.name) book.salvos.items) in
-    let new = none_before (map name front) turn.name (map name back ++ map (λ (salvo : RawSalvo). salvo.name) book.salvos.items) (subst AreDistinct names p.names) in
+    let names = ap (λ (ns : List (List ℕ)). ns ++ map (λ (salvo : RawSalvo). salvo.name) book.salvos) (ap (map name) e ∙ map-append name front (turn ∷ back)) ∙ append_assoc (map name front) (turn.name ∷ map name back) (map (λ (salvo : RawSalvo). salvo.name) book.salvos) in
+    let new = none_before (map name front) turn.name (map name back ++ map (λ (salvo : RawSalvo). salvo.name) book.salvos) (subst AreDistinct names p.names) in
     line_first a _ (turn_words kinds turn) s (map (turn_words kinds) back) (turn_line kinds turn h.0 (name_of_kind kinds turn.kind h.0.kind p.kinds) (next_named kinds turn.end h.0.leaves p.kinds))
     (subst (λ (ns : List (List ℕ)). IsNoneOf ns turn.name) (sym (append-nil (map name front))) new)
     ((kind_known kinds turn.kind h.0.kind p.kind_names).known, next_known kinds turn.end h.0.leaves p.kind_names)
     (not_over a s (all_both IsHeld (leaves_numbers (leaves_of kinds turn.end) (pos turn.n)) (map (held limit.Delay) turn.delays) (ending_held kinds turn.end turn.n h.0.leaves h.0.short) (each_held limit.Delay turn.delays h.0.delays))
     (record { kinds = few_kinds; turns = omega arith; salvos = omega arith; delays = few_delays; lanes = omega arith; cells = omega arith }))
-    (subst (λ (t : RawTurn). AreFineFor (told book kinds (Some book.start) (front ++ (t ∷ [])) []) (map (turn_words kinds) back) (told book kinds (Some book.start) book.turns.items [])) (sym (turn_back kinds turn h.0 p.kind_names))
+    (subst (λ (t : RawTurn). AreFineFor (told book kinds (Some book.start) (front ++ (t ∷ [])) []) (map (turn_words kinds) back) (told book kinds (Some book.start) book.turns [])) (sym (turn_back kinds turn h.0 p.kind_names))
     (turns_fine book p (front ++ (turn ∷ [])) back (e ∙ sym (append_assoc front (turn ∷ []) back)) h.1))
 
 -- ---- salvos
@@ -229,40 +229,36 @@ hand_held : (hand : Option Cell) → IsProperPlace hand → AllByRecursion IsHel
 hand_held None h = tt
 hand_held (Some place) h = (h.0, (h.1, tt))
 
-salvos_fine : (book : RawBook) → IsProperBook book → (front back : List RawSalvo) (ls : List (List (List ℕ))) → book.salvos.items ≡ front ++ back → AllByRecursion IsProperSalvo back → AllZip IsSalvoLine back ls
-    → AreFineFor (told book book.kinds.items (Some book.start) book.turns.items front) ls (told book book.kinds.items (Some book.start) book.turns.items book.salvos.items)
-salvos_fine book p front [] [] e h z = no_lines _ _ (ap (λ (ss : List RawSalvo). told book book.kinds.items (Some book.start) book.turns.items ss) (e ∙ append-nil front))
+salvos_fine : (book : Said) → IsProperBook book → (front back : List RawSalvo) (ls : List (List (List ℕ))) → book.salvos ≡ front ++ back → AllByRecursion IsProperSalvo back → AllZip IsSalvoLine back ls
+    → AreFineFor (told book book.kinds (Some book.start) book.turns front) ls (told book book.kinds (Some book.start) book.turns book.salvos)
+salvos_fine book p front [] [] e h z = no_lines _ _ (ap (λ (ss : List RawSalvo). told book book.kinds (Some book.start) book.turns ss) (e ∙ append-nil front))
 salvos_fine book p front [] (words ∷ ls) e h z = absurd z
 salvos_fine book p front (salvo ∷ back) [] e h z = absurd z
 salvos_fine book p front (salvo ∷ back) (words ∷ ls) e h z =
     let many : List RawSalvo → ℕ = sum_by (λ (v : RawSalvo). length (in_order v.product)) in
-    let a = told book book.kinds.items (Some book.start) book.turns.items front in
+    let a = told book book.kinds (Some book.start) book.turns front in
     let total = p.few_cells in
-    let parts : many book.salvos.items ≡ many front + (length (in_order salvo.product) + many back) = ap many e ∙ sum_by-append (λ (v : RawSalvo). length (in_order v.product)) front (salvo ∷ back) ∙ ap (λ (n : ℕ). many front + n) (sum_by-cons (λ (v : RawSalvo). length (in_order v.product)) salvo back) in
+    let parts : many book.salvos ≡ many front + (length (in_order salvo.product) + many back) = ap many e ∙ sum_by-append (λ (v : RawSalvo). length (in_order v.product)) front (salvo ∷ back) ∙ ap (λ (n : ℕ). many front + n) (sum_by-cons (λ (v : RawSalvo). length (in_order v.product)) salvo back) in
     let few_kinds = p.few_kinds in
     let few_turns = p.few_turns in
     let few_salvos = p.few_salvos in
     let few_lanes = h.0.few in
-    let size : length book.salvos.items ≡ length front + suc (length back) = ap length e ∙ length-append front (salvo ∷ back) in
+    let size : length book.salvos ≡ length front + suc (length back) = ap length e ∙ length-append front (salvo ∷ back) in
     let r = salvo_line salvo words z.0 h.0 (omega arith) in
     let s = Salvo (salvo_told salvo r.product) in
     let count = r.count in
     let size_on : length (front ++ (salvo_of (salvo_told salvo r.product) ∷ [])) ≡ length front + 1 = length-append front (salvo_of (salvo_told salvo r.product) ∷ []) in
     let same : salvo_of (salvo_told salvo r.product) ≡ salvo = (λ i. record { name = salvo.name; lanes = salvo.lanes; product = r.same i; hand = salvo.hand }) in
     let name = λ (v : RawSalvo). v.name in
-    let turn_names = map (λ (t : RawTurn). t.name) book.turns.items in
+    let turn_names = map (λ (t : RawTurn). t.name) book.turns in
     let names = ap (λ (ns : List (List ℕ)). turn_names ++ ns) (ap (map name) e ∙ map-append name front (salvo ∷ back)) ∙ sym (append_assoc turn_names (map name front) (salvo.name ∷ map name back)) in
     line_first a _ words s ls r.line (none_before (turn_names ++ map name front) salvo.name (map name back) (subst AreDistinct names p.names)) tt
     (not_over a s (all_both IsHeld (map (held limit.Coordinate) salvo.lanes) (product_numbers r.product ++ place_numbers salvo.hand) (each_held limit.Coordinate salvo.lanes h.0.lanes) (all_both IsHeld (product_numbers r.product) (place_numbers salvo.hand) r.held_all (hand_held salvo.hand h.0.hand)))
     (record { kinds = few_kinds; turns = few_turns; salvos = omega arith; delays = omega arith; lanes = few_lanes; cells = omega arith }))
-    (subst (λ (v : RawSalvo). AreFineFor (told book book.kinds.items (Some book.start) book.turns.items (front ++ (v ∷ []))) ls (told book book.kinds.items (Some book.start) book.turns.items book.salvos.items)) (sym same)
+    (subst (λ (v : RawSalvo). AreFineFor (told book book.kinds (Some book.start) book.turns (front ++ (v ∷ []))) ls (told book book.kinds (Some book.start) book.turns book.salvos)) (sym same)
     (salvos_fine book p (front ++ (salvo ∷ [])) back ls (e ∙ sym (append_assoc front (salvo ∷ []) back)) h.1 z.1))
 
 -- ---- the whole text
-
--- what a book says
-abbrev said_of : RawBook → Said
-said_of book = record { settings = book.settings; hand = book.hand; kinds = book.kinds.items; start = book.start; turns = book.turns.items; salvos = book.salvos.items }
 
 version_each : AllByRecursion IsWord version_words
 version_each = (record { some = lit< tt; bytes = refl }, (record { some = lit< tt; bytes = refl }, tt))
@@ -271,13 +267,13 @@ some_kinds : (kinds : List RawKind) → 0 < length kinds → kinds ≢ []
 some_kinds kinds some e = absurd (omega (arith, ap length e))
 
 -- a book's canonical text says the book
-pub book_reads_back : (book : RawBook) (text : List ℕ) → IsProperBook book → IsBookText book text → (said : Said) × (Says text said × IsBook said book)
+pub book_reads_back : (book : Said) (text : List ℕ) → IsProperBook book → IsBookText book text → Says text book
 book_reads_back book text p t =
-    let kinds : List RawKind = book.kinds.items in
+    let kinds : List RawKind = book.kinds in
     let start = start_words kinds book.start in
-    let turns = map (turn_words kinds) book.turns.items in
-    let end = told book kinds (Some book.start) book.turns.items book.salvos.items in
-    let entries = lines_both _ _ end turns t.salvos (turns_fine book p [] book.turns.items refl p.turns) (salvos_fine book p [] book.salvos.items t.salvos refl p.salvos t.salvos_are) in
+    let turns = map (turn_words kinds) book.turns in
+    let end = told book kinds (Some book.start) book.turns book.salvos in
+    let entries = lines_both _ _ end turns t.salvos (turns_fine book p [] book.turns refl p.turns) (salvos_fine book p [] book.salvos t.salvos refl p.salvos t.salvos_are) in
     let started = lines_both _ _ end (start ∷ []) (turns ++ t.salvos) (start_fine book p) entries in
     let from_kinds = lines_both _ _ end t.kinds (start ∷ (turns ++ t.salvos)) (kinds_fine book p [] kinds t.kinds refl p.kinds t.kinds_are) started in
     let behind = t.kinds ++ (start ∷ (turns ++ t.salvos)) in
@@ -285,18 +281,13 @@ book_reads_back book text p t =
     let body = settings_words book.settings ++ (t.hand ∷ behind) in
     let fine = subst (λ (ls : List (List (List ℕ))). AreFineFor nothing_stated ls end) (append_assoc (settings_words book.settings) (t.hand ∷ []) behind) all in
     let lines_of_text : lines text ≡ line_of version_words ∷ map line_of body = ap lines t.whole ∙ lines_are (version_words ∷ body) (version_each, fine.each) in
-    let version = words_are (codes "scbook") (codes "1" ∷ []) version_each.0 version_each.1 in (
-      said_of book,
-      (
-        record {
-          read = record {
-            number = 1;
-            body = map line_of body;
-            begun = record { head = []; version = line_of version_words; lines_are = lines_of_text; head_is = tt; version_is = version; number_is = refl };
-            fine = fine.fine;
-          };
-          some_kind = some_kinds kinds p.some_kind;
-        },
-        record { settings = refl; hand = refl; kinds = refl; start = refl; turns = refl; salvos = refl },
-      ),
-    )
+    let version = words_are (codes "scbook") (codes "1" ∷ []) version_each.0 version_each.1 in
+    record {
+      read = record {
+        number = 1;
+        body = map line_of body;
+        begun = record { head = []; version = line_of version_words; lines_are = lines_of_text; head_is = tt; version_is = version; number_is = refl };
+        fine = fine.fine;
+      };
+      some_kind = some_kinds kinds p.some_kind;
+    }

@@ -9,7 +9,7 @@ use Rattle.life_cells.specs.declared.bounds.Bounds.{Bounds}
 use Rattle.life_rle.specs.Written.{IsBodyText}
 use Rattle.book_parts.specs.declared.kind.RawKind.{RawKind}
 use Rattle.book_parts.specs.declared.salvo.RawSalvo.{RawSalvo}
-use Rattle.book_parts.specs.declared.book.RawBook.{RawBook}
+use Rattle.book_parts.specs.Said.{Said}
 use Rattle.book_write.specs.Laid.{text_of}
 use Rattle.book_write.specs.Parts.{version_words, settings_words, IsBodyWord, IsHandLine, IsPlacedText, IsKindLine, start_words, turn_words, IsProductText, hand_words, IsSalvoLine}
 use Rattle.book_write.specs.Canonical.{IsBookText}
@@ -58,11 +58,11 @@ module _ (one_word : (s : Plane) (word other : List ℕ) → IsBodyText s word �
   one_each R f (x ∷ xs) (y ∷ ys) [] h k = absurd k
   one_each R f (x ∷ xs) (y ∷ ys) (z ∷ zs) h k = λ i. f x y z h.0 k.0 i ∷ one_each R f xs ys zs h.1 k.1 i
 
-  pub one_text : (book : RawBook) (text other : List ℕ) → IsBookText book text → IsBookText book other → text ≡ other
+  pub one_text : (book : Said) (text other : List ℕ) → IsBookText book text → IsBookText book other → text ≡ other
   one_text book text other h k =
       let hand = one_hand book.hand h.hand k.hand h.hand_is k.hand_is in
-      let kinds = one_each IsKindLine one_kind book.kinds.items h.kinds k.kinds h.kinds_are k.kinds_are in
-      let salvos = one_each IsSalvoLine one_salvo book.salvos.items h.salvos k.salvos h.salvos_are k.salvos_are in
+      let kinds = one_each IsKindLine one_kind book.kinds h.kinds k.kinds h.kinds_are k.kinds_are in
+      let salvos = one_each IsSalvoLine one_salvo book.salvos h.salvos k.salvos h.salvos_are k.salvos_are in
       h.whole
-      ∙ (λ i. text_of (version_words ∷ (settings_words book.settings ++ (hand i ∷ (kinds i ++ (start_words book.kinds.items book.start ∷ (map (turn_words book.kinds.items) book.turns.items ++ salvos i)))))))
+      ∙ (λ i. text_of (version_words ∷ (settings_words book.settings ++ (hand i ∷ (kinds i ++ (start_words book.kinds book.start ∷ (map (turn_words book.kinds) book.turns ++ salvos i)))))))
       ∙ sym k.whole

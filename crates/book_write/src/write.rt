@@ -3,7 +3,7 @@
 ghost use Rattle.std.specs.Prelude.{◌≡◌, ℕ, OnOk, OnErr, IfOk};
 ghost use Rattle.life_rle.specs.Written.{Appends};
 ghost use Rattle.book_parts.specs.Proper.{IsProperBook};
-ghost use Rattle.book_text.specs.Book.{Said, Says, IsBook};
+ghost use Rattle.book_text.specs.Book.{Says};
 ghost use Rattle.book_write.specs.Canonical.{IsBookText};
 
 use crate::kinds::{push_hand, push_kinds, push_start};
@@ -38,7 +38,7 @@ fn text_of_book(alloc: Global, book: &RawBook) -> Result<Vec<u8>, NoMemory>
 pub fn write_book(alloc: Global, book: &RawBook, into: &mut Vec<u8>) -> Result<(), NoMemory>
     requires proper { IsProperBook book.now }
     ensures ok { OnOk result (Appends into.old.items into.new.items (IsBookText book.now)) }
-    ensures read_back { OnOk result (Appends into.old.items into.new.items (λ text. (said : Said) × (Says text said × IsBook said book.now))) }
+    ensures read_back { OnOk result (Appends into.old.items into.new.items (λ text. Says text book.now)) }
     ensures err { OnErr result (into.new.items ≡ into.old.items) }
 {
     let text = text_of_book(alloc, book)?;

@@ -1,39 +1,22 @@
 -- From a text that is held and what it says to what is held.
-use Rattle.std.specs.Prelude.{ℕ, pos, ◌+ℤ◌, ◌≤ℤ◌, List, IfOk, IfErr, IfSome, Result, Ok, Err}
+use Rattle.std.specs.Prelude.{ℕ, List, IfOk, IfErr, IfSome, Result, Ok, Err}
 use Rattle.std.specs.declared.option.Option.{Option}
 use Rattle.std.specs.declared.option.Option.TheVariants.{Some, None}
-use Rattle.std.proofs.Common.{subst}
 use Rattle.life_cells.specs.Cells.{alive}
 use Rattle.life_io.specs.Texts.{HeldText}
 use Rattle.life_rle.specs.Text.{Means}
 use Rattle.life_rle.specs.declared.pattern.Pattern.{Pattern}
-use Rattle.book_parts.specs.declared.book.RawBook.{RawBook}
-use Rattle.book_parts.specs.declared.settings.Settings.{Settings}
-use Rattle.book_parts.specs.Limits.{AreProper}
-use Rattle.book_text.specs.Book.{Said, Says, IsBook}
+use Rattle.book_text.specs.Book.{Said}
 use Rattle.life_cli.specs.declared.status.Which.{Which}
 use Rattle.life_cli.specs.declared.status.Status.{Status}
 use Rattle.life_cli.specs.declared.status.Status.TheVariants.{BadRle, BadBookText, Memory}
 use Rattle.life_cli.specs.Book.{ReadsAsBook}
 use Rattle.life_cli.specs.Causes.{IsHeld, HoldsBook, HoldsPattern, BookTextIsRefused, PatternTextIsRefused, BookReadingIsRefused, PatternReadingIsRefused}
 
--- a book with proper settings has its reach past its wall
-pub reads_as_book : (text : List ℕ) (book : RawBook) → AreProper book.settings → (said : Said) × (Says text said × IsBook said book) → (said : Said) × (ReadsAsBook text said × IsBook said book)
-reads_as_book text book proper r = (
-  r.0,
-  (
-    record {
-      says = r.1.0;
-      wide = let P : Settings → Type 0 = λ s. (s.wall +ℤ pos 9) ≤ℤ s.reach in subst P r.1.1.settings proper.reach.low;
-    },
-    r.1.1,
-  ),
-)
-
-pub held_book : (told : Option (List HeldText)) (name text : List ℕ) (r : Result RawBook Status) → IfSome told (λ texts. IsHeld texts name text) →
-    IfOk r (λ book. (said : Said) × (ReadsAsBook text said × IsBook said book)) → IfOk r (λ book. (said : Said) × (IsBook said book × IfSome told (λ texts. HoldsBook texts name said)))
-held_book None name text (Ok book) h k = (k.0, (k.1.1, tt))
-held_book (Some texts) name text (Ok book) h k = (k.0, (k.1.1, record { text = text; held = h; reads = k.1.0 }))
+pub held_book : (told : Option (List HeldText)) (name text : List ℕ) (r : Result Said Status) → IfSome told (λ texts. IsHeld texts name text) →
+    IfOk r (λ book. ReadsAsBook text book) → IfOk r (λ book. IfSome told (λ texts. HoldsBook texts name book))
+held_book None name text (Ok book) h k = tt
+held_book (Some texts) name text (Ok book) h k = record { text = text; held = h; reads = k }
 held_book told name text (Err e) h k = tt
 
 pub held_pattern : (told : Option (List HeldText)) (name text : List ℕ) (r : Result Pattern Status) → IfSome told (λ texts. IsHeld texts name text) →

@@ -10,8 +10,7 @@ use Rattle.life_cells.specs.Cells.{cell}
 use Rattle.life_cells.specs.Difference.{IsFirstDifference}
 use Rattle.life_cells.specs.declared.cell.Cell.{Cell}
 use Rattle.life_io.specs.Texts.{HeldText}
-use Rattle.book_parts.specs.declared.book.RawBook.{RawBook}
-use Rattle.book_text.specs.Book.{Said, IsBook}
+use Rattle.book_text.specs.Book.{Said}
 use Rattle.life_cli.specs.declared.status.Which.TheVariants.{Book, Target, Pattern}
 use Rattle.life_cli.specs.declared.status.Status.{Status}
 use Rattle.life_cli.specs.declared.status.Status.TheVariants.{ReadFault, TooLong, BadRle, BadBookText, BadTarget, BadBook, NoPlan, StreamLong, Memory, NotYet}
@@ -81,24 +80,24 @@ building_refuses told book target before now said other h k r = absurd r
 pub empty_held : (told : Option (List HeldText)) (target : List ℕ) (s : Plane) → s ≡ nothing → IfSome told (λ texts. HoldsPattern texts target s) → IfSome told (λ texts. HoldsPattern texts target nothing)
 empty_held told target s none h = subst (λ (p : Plane). IfSome told (λ texts. HoldsPattern texts target p)) none h
 
-pub answer_refuses : {T : Type 0} (told : Option (List HeldText)) (book target : List ℕ) (before now : ℕ) (raw : RawBook) (said : Said) (r : Result T Status) →
-    IsBook said raw → IfSome told (λ texts. HoldsBook texts book said) → IfSome told (λ texts. HoldsPattern texts target nothing) →
-    IfErr r (λ status. (said : Said) → IsBook said raw → BuildingIsRefused said status) → IfErr r (λ status. CompilingIsRefused told book target before now status)
-answer_refuses told book target before now raw said (Ok x) is h k r = tt
-answer_refuses told book target before now raw said (Err status) is h k r = building_refuses told book target before now said status h k (r said is)
+pub answer_refuses : {T : Type 0} (told : Option (List HeldText)) (book target : List ℕ) (before now : ℕ) (said : Said) (r : Result T Status) →
+    IfSome told (λ texts. HoldsBook texts book said) → IfSome told (λ texts. HoldsPattern texts target nothing) →
+    IfErr r (λ status. BuildingIsRefused said status) → IfErr r (λ status. CompilingIsRefused told book target before now status)
+answer_refuses told book target before now said (Ok x) h k r = tt
+answer_refuses told book target before now said (Err status) h k r = building_refuses told book target before now said status h k r
 
-pub answer_given : (told : Option (List HeldText)) (book target : List ℕ) (raw : RawBook) (said : Said) (r : Result (Vec ℕ Global) Status) →
-    IsBook said raw → IfSome told (λ texts. HoldsBook texts book said) → IfSome told (λ texts. HoldsPattern texts target nothing) →
-    IfOk r (λ bytes. (said : Said) → IsBook said raw → AnswersBook said bytes.items) → IfOk r (λ bytes. IfSome told (λ texts. IsAnswer texts book target bytes.items))
-answer_given told book target raw said (Err e) is h k f = tt
-answer_given None book target raw said (Ok bytes) is h k f = tt
-answer_given (Some texts) book target raw said (Ok bytes) is h k f =
+pub answer_given : (told : Option (List HeldText)) (book target : List ℕ) (said : Said) (r : Result (Vec ℕ Global) Status) →
+    IfSome told (λ texts. HoldsBook texts book said) → IfSome told (λ texts. HoldsPattern texts target nothing) →
+    IfOk r (λ bytes. AnswersBook said bytes.items) → IfOk r (λ bytes. IfSome told (λ texts. IsAnswer texts book target bytes.items))
+answer_given told book target said (Err e) h k f = tt
+answer_given None book target said (Ok bytes) h k f = tt
+answer_given (Some texts) book target said (Ok bytes) h k f =
     record {
       book_text = h.text;
       target_text = k.text;
       book_held = h.held;
       target_held = k.held;
-      compiled = f said is h.text k.text h.reads k.means;
+      compiled = f h.text k.text h.reads k.means;
     }
 
 -- the text of a later generation of a pattern that is held answers `replay`
@@ -119,5 +118,5 @@ first_live s t c none d = record {
     lives false h = absurd (h refl)
 
 -- building has no fault of reading
-pub no_read_fault : {T : Type 0} (raw : RawBook) (said : Said) (r : Result T Status) → IsBook said raw → IfErr r (λ status. (said : Said) → IsBook said raw → BuildingIsRefused said status) → r ≡ Err ReadFault → ⊥
-no_read_fault raw said r is h e = (subst (λ (q : Result _ Status). IfErr q (λ status. (said : Said) → IsBook said raw → BuildingIsRefused said status)) e h) said is
+pub no_read_fault : {T : Type 0} (said : Said) (r : Result T Status) → IfErr r (λ status. BuildingIsRefused said status) → r ≡ Err ReadFault → ⊥
+no_read_fault said r h e = subst (λ (q : Result _ Status). IfErr q (λ status. BuildingIsRefused said status)) e h

@@ -5,19 +5,16 @@ use Rattle.std.specs.Prelude.{◌≡◌, ℕ, List, IfOk, IfErr, Result, Ok, Err
 use Rattle.std.specs.declared.option.Option.TheVariants.{Some}
 use Rattle.std.proofs.Common.{sym, ap, subst, ◌∙◌}
 use Rattle.life_plane.specs.Plane.{Plane, run, nothing}
-use Rattle.life_cells.specs.Cells.{Cells, alive}
+use Rattle.life_cells.specs.Cells.{alive}
 use Rattle.life_rle.specs.Text.{Means}
 use Rattle.life_rle.specs.Written.{IsRleText}
 use Rattle.book_parts.specs.declared.settings.Settings.{Settings}
 use Rattle.book_parts.specs.declared.kind.RawKind.{RawKind}
 use Rattle.book_parts.specs.declared.turn.RawTurn.{RawTurn}
-use Rattle.book_parts.specs.declared.book.RawBook.{RawBook}
-use Rattle.book_text.specs.Book.{Said, IsBook}
+use Rattle.book_text.specs.Book.{Said}
 use Rattle.recipe_turn.specs.Elbows.{raws}
 use Rattle.recipe_book.specs.Checked.{CheckedEntries}
 use Rattle.recipe_book.specs.Entries.{AreTheSound}
-use Rattle.recipe_book.specs.Refusals.{BookIsRefused}
-use Rattle.recipe_book.specs.declared.refusal.BookRefusal.{BookRefusal}
 use Rattle.stream_time.specs.Pattern.{pattern, last_end}
 use Rattle.stream_time.specs.Built as plan
 use Rattle.stream_time.specs.declared.building.Built.{Built}
@@ -27,30 +24,6 @@ use Rattle.life_cli.specs.Compiled.{IsCompiled, pattern_of, generations, back, A
 use Rattle.life_cli.specs.Causes.{CheckIsRefused, PlanningIsRefused, BuildingIsRefused}
 use Rattle.life_cli.specs.declared.status.Status.{Status}
 use Rattle.life_cli.specs.declared.status.Status.TheVariants.{BadBook, NoPlan, StreamLong, Memory}
-
--- ---- the book that was checked is the one that was read
-
-pub checked_of : (said : Said) (book : RawBook) (found : CheckedEntries) → IsBook said book → found.settings ≡ book.settings → found.kinds ≡ book.kinds.items → found.start ≡ book.start → found.hand ≡ book.hand →
-    AreTheSound book.settings book.kinds.items book.turns.items (raws found.turns) → IsCheckedOf said found
-checked_of said book found is settings kinds start hand turns = record {
-  settings = settings ∙ is.settings;
-  kinds = kinds ∙ is.kinds;
-  start = start ∙ is.start;
-  hand = hand ∙ is.hand;
-  turns =
-      subst (λ (s : Settings). AreTheSound s said.kinds said.turns (raws found.turns)) is.settings
-      (subst (λ (ks : List RawKind). AreTheSound book.settings ks said.turns (raws found.turns)) is.kinds
-      (subst (λ (ts : List RawTurn). AreTheSound book.settings book.kinds.items ts (raws found.turns)) is.turns turns));
-}
-
-pub refused_of : (said : Said) (book : RawBook) (e : BookRefusal) → IsBook said book → BookIsRefused book.settings book.hand book.kinds.items book.start book.turns.items e →
-    BookIsRefused said.settings said.hand said.kinds said.start said.turns e
-refused_of said book e is h =
-    subst (λ (s : Settings). BookIsRefused s said.hand said.kinds said.start said.turns e) is.settings
-    (subst (λ (c : Cells). BookIsRefused book.settings c said.kinds said.start said.turns e) is.hand
-    (subst (λ (ks : List RawKind). BookIsRefused book.settings book.hand ks said.start said.turns e) is.kinds
-    (subst (λ (n : ℕ). BookIsRefused book.settings book.hand book.kinds.items n said.turns e) is.start
-    (subst (λ (ts : List RawTurn). BookIsRefused book.settings book.hand book.kinds.items book.start ts e) is.turns h))))
 
 -- ---- the plan over its sound turns
 
@@ -103,12 +76,12 @@ planning_refused said sound Memory are h = tt
 planning_refused said sound other are h = absurd h
 
 -- what answers for a checked book answers for the book that was read
-pub answers_read : {E : Type 0} (raw : RawBook) (found : CheckedEntries) (r : Result (Vec ℕ Global) E) → ((said : Said) → IsBook said raw → IsCheckedOf said found) →
-    IfOk r (λ bytes. (said : Said) → IsCheckedOf said found → AnswersBook said bytes.items) → IfOk r (λ bytes. (said : Said) → IsBook said raw → AnswersBook said bytes.items)
-answers_read raw found (Ok bytes) is h = λ said b. h said (is said b)
-answers_read raw found (Err e) is h = tt
+pub answers_read : {E : Type 0} (book : Said) (found : CheckedEntries) (r : Result (Vec ℕ Global) E) → IsCheckedOf book found →
+    IfOk r (λ bytes. (said : Said) → IsCheckedOf said found → AnswersBook said bytes.items) → IfOk r (λ bytes. AnswersBook book bytes.items)
+answers_read book found (Ok bytes) is h = h book is
+answers_read book found (Err e) is h = tt
 
-pub planning_read : {T : Type 0} (raw : RawBook) (found : CheckedEntries) (r : Result T Status) → ((said : Said) → IsBook said raw → IsCheckedOf said found) →
-    IfErr r (λ status. (said : Said) → IsCheckedOf said found → PlanningIsRefused (raws found.turns) said status) → IfErr r (λ status. (said : Said) → IsBook said raw → BuildingIsRefused said status)
-planning_read raw found (Ok bytes) is h = tt
-planning_read raw found (Err status) is h = λ said b. planning_refused said (raws found.turns) status (is said b).turns (h said (is said b))
+pub planning_read : {T : Type 0} (book : Said) (found : CheckedEntries) (r : Result T Status) → IsCheckedOf book found →
+    IfErr r (λ status. (said : Said) → IsCheckedOf said found → PlanningIsRefused (raws found.turns) said status) → IfErr r (λ status. BuildingIsRefused book status)
+planning_read book found (Ok bytes) is h = tt
+planning_read book found (Err status) is h = planning_refused book (raws found.turns) status is.turns (h book is)

@@ -5,7 +5,6 @@ ghost use Rattle.std.specs.String.{string_bytes};
 ghost use Rattle.life_io.specs.Counts.{IsLaterCount};
 ghost use Rattle.life_io.specs.Texts.{Holds};
 ghost use Rattle.book_parts.specs.Proper.{IsProperBook};
-ghost use Rattle.book_text.specs.Book.{Said, IsBook};
 ghost use Rattle.recipe_book.specs.Verdicts.{AreVerdicts};
 ghost use Rattle.life_cells.specs.Cells.{alive};
 ghost use Rattle.life_cli.specs.Verdicts.{turn_reason, salvo_reason, verdict_text, turn_title, salvo_title, titles, verdict_lines, is_accepted, accepted, sum_line, Judges, IsReport};
@@ -115,7 +114,7 @@ fn push_salvo_titles(
 
 // The titles of a book's turns and salvos.
 fn titles_of(alloc: Global, book: &RawBook) -> Result<Vec<String>, AllocError>
-    ensures { IfOk result (λ found. map string_bytes found.items ≡ titles book.now.turns.items book.now.salvos.items) }
+    ensures { IfOk result (λ found. map string_bytes found.items ≡ titles book.now.turns book.now.salvos) }
 {
     let mut titles = Vec::new(alloc);
     push_turn_titles(alloc, &mut titles, &book.turns)?;
@@ -186,8 +185,8 @@ fn verdicts_on<L: Ledger>(
     steps: &mut Steps<L>,
 ) -> Result<Vec<Verdict>, Status>
     requires { IsProperBook book }
-    ensures ok { IfOk result (λ verdicts. AreVerdicts book.settings book.kinds.items (alive book.hand) book.turns.items book.salvos.items verdicts.items) }
-    ensures err { IfErr result (λ status. (said : Said) → IsBook said book → CheckIsRefused said status) }
+    ensures ok { IfOk result (λ verdicts. AreVerdicts book.settings book.kinds (alive book.hand) book.turns book.salvos verdicts.items) }
+    ensures err { IfErr result (λ status. CheckIsRefused book status) }
     ensures steps { steps.old ≤ steps.new }
 {
     match check_book(alloc, book, steps) {
@@ -204,8 +203,8 @@ fn report_on<L: Ledger>(
     steps: &mut Steps<L>,
 ) -> Result<Vec<u8>, Status>
     requires { IsProperBook book }
-    ensures ok { IfOk result (λ bytes. (said : Said) → IsBook said book → Judges said bytes.items) }
-    ensures err { IfErr result (λ status. (said : Said) → IsBook said book → CheckIsRefused said status) }
+    ensures ok { IfOk result (λ bytes. Judges book bytes.items) }
+    ensures err { IfErr result (λ status. CheckIsRefused book status) }
     ensures steps { steps.old ≤ steps.new }
 {
     let Ok(titles) = titles_of(alloc, &book) else {

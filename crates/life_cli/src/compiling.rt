@@ -7,7 +7,7 @@ ghost use Rattle.life_cells.specs.Boxes.{IsInRange};
 ghost use Rattle.life_target.specs.Targets.{IsTarget};
 ghost use Rattle.life_io.specs.Counts.{IsLaterCount};
 ghost use Rattle.life_io.specs.Texts.{Holds};
-ghost use Rattle.book_text.specs.Book.{Said, IsBook};
+ghost use Rattle.book_text.specs.Book.{Said};
 ghost use Rattle.book_parts.specs.Proper.{IsProperBook};
 ghost use Rattle.recipe_turn.specs.Elbows.{raws};
 ghost use Rattle.stream_time.specs.Built.{IsBuilt};
@@ -94,8 +94,8 @@ fn checked<L: Ledger>(
     steps: &mut Steps<L>,
 ) -> Result<CheckedBook, Status>
     requires { IsProperBook book }
-    ensures ok { IfOk result (λ found. (said : Said) → IsBook said book → IsCheckedOf said found) }
-    ensures err { IfErr result (λ status. (said : Said) → IsBook said book → CheckIsRefused said status) }
+    ensures ok { IfOk result (λ found. IsCheckedOf book found) }
+    ensures err { IfErr result (λ status. CheckIsRefused book status) }
     ensures steps { steps.old ≤ steps.new }
 {
     match check_book(alloc, book, steps) {
@@ -139,8 +139,8 @@ fn answer_of<L: Ledger>(
     steps: &mut Steps<L>,
 ) -> Result<Vec<u8>, Status>
     requires { IsProperBook book }
-    ensures ok { IfOk result (λ bytes. (said : Said) → IsBook said book → AnswersBook said bytes.items) }
-    ensures err { IfErr result (λ status. (said : Said) → IsBook said book → BuildingIsRefused said status) }
+    ensures ok { IfOk result (λ bytes. AnswersBook book bytes.items) }
+    ensures err { IfErr result (λ status. BuildingIsRefused book status) }
     ensures steps { steps.old ≤ steps.new }
 {
     match checked(alloc, book, steps) {

@@ -5,7 +5,6 @@ ghost use Rattle.life_cells.specs.Cells.{alive};
 ghost use Rattle.life_io.specs.Counts.{IsLaterCount};
 ghost use Rattle.life_io.specs.Texts.{Holds};
 ghost use Rattle.life_rle.specs.Text.{Means};
-ghost use Rattle.book_text.specs.Book.{Said, IsBook};
 ghost use Rattle.book_parts.specs.Proper.{IsProperBook};
 ghost use Rattle.life_cells.specs.Boxes.{IsInRange};
 ghost use Rattle.life_cli.specs.Book.{ReadsAsBook};
@@ -21,7 +20,7 @@ use std::alloc::Global;
 
 // The book of a text.
 fn book_of(alloc: Global, text: &[u8]) -> Result<RawBook, Status>
-    ensures ok { IfOk result (λ book. (said : Said) × (ReadsAsBook text.now said × IsBook said book)) }
+    ensures ok { IfOk result (λ book. ReadsAsBook text.now book) }
     ensures proper { IfOk result (λ book. IsProperBook book) }
     ensures err { IfErr result (λ status. BookTextIsRefused text.now status) }
 {
@@ -51,7 +50,7 @@ pub(crate) fn fetch_book<D: Depot>(
     depot: &mut D,
     name: &str,
 ) -> Result<RawBook, Status>
-    ensures ok { IfOk result (λ book. (said : Said) × (IsBook said book × IfSome (D.texts depot.old) (λ texts. HoldsBook texts name.now said))) }
+    ensures ok { IfOk result (λ book. IfSome (D.texts depot.old) (λ texts. HoldsBook texts name.now book)) }
     ensures proper { IfOk result (λ book. IsProperBook book) }
     ensures err { IfErr result (λ status. BookReadingIsRefused (D.texts depot.old) name.now (D.faults depot.old) (D.faults depot.new) status) }
     ensures texts_stay { D.texts depot.new ≡ D.texts depot.old }

@@ -5,3 +5,4 @@ pub mod Indexing
 pub mod Refusing
 pub mod OneList
 pub mod Whole
+pub mod AcceptedPart

@@ -2,7 +2,7 @@
 use Rattle.std.specs.Prelude.{◌≡◌, ℕ, ◌+◌, ◌≤◌, List, [], ◌∷◌, ◌++◌, length, map, sum_by}
 use Rattle.std.specs.List.{AllByRecursion, AllZip}
 use Rattle.std.proofs.Common.{refl, sym, ap, subst, ◌∙◌, arith, inl, inr, append_assoc}
-use Rattle.std.proofs.lemmas.List.{append-nil, length-append}
+use Rattle.std.proofs.lemmas.List.{append-nil}
 use Rattle.std.proofs.lemmas.List.Sums.{sum_by-cons}
 use Rattle.recipe_book.specs.Entries.{AreThose}
 use Rattle.recipe_book.specs.Accepting.{AddsVerdicts}
@@ -15,7 +15,6 @@ pub record IsSoFar {A C : Type 0} (raw : C → A) (Sound : A → Type 0) (Kept :
   pub sound : (later : List A) → AreThose Sound rest later → AreThose Sound all (map raw found ++ later)
   pub proper : AllByRecursion Proper rest
   pub kept : AllByRecursion Kept found
-  pub few : (length found + length rest) ≤ length all
   pub added : List Verdict
   pub grown : now ≡ old ++ added
   pub judged : (later : List Verdict) → AllZip Judges rest later → AllZip Judges all (added ++ later)
@@ -36,7 +35,6 @@ begins raw Sound Kept Judges Proper weight all old before p = record {
   sound = λ later h. h;
   proper = p;
   kept = tt;
-  few = omega arith;
   added = [];
   grown = sym (append-nil old);
   judged = λ later h. h;
@@ -51,14 +49,12 @@ pub skips : {A C : Type 0} {raw : C → A} {Sound : A → Type 0} {Kept : C → 
     IsSoFar raw Sound Kept Judges Proper weight all (x ∷ rest) found old now before after → IsSoFar raw Sound Kept Judges Proper weight all rest found old (now ++ (v ∷ [])) before next
 skips {weight = weight} {x = x} {rest = rest} {old = old} next v unsound judges low high s =
     let sum = sum_by-cons weight x rest in
-    let few = s.few in
     let least = s.least in
     let most = s.most in
     record {
       sound = λ later h. s.sound later (inr (unsound, h));
       proper = s.proper.1;
       kept = s.kept;
-      few = omega arith;
       added = s.added ++ (v ∷ []);
       grown = ap (λ l. l ++ (v ∷ [])) s.grown ∙ append_assoc old s.added (v ∷ []);
       judged = λ later h. subst (AllZip _ _) (sym (append_assoc s.added (v ∷ []) later)) (s.judged (v ∷ later) (judges, h));
@@ -74,8 +70,6 @@ pub takes : {A C : Type 0} {raw : C → A} {Sound : A → Type 0} {Kept : C → 
     IsSoFar raw Sound Kept Judges Proper weight all rest (found ++ (c ∷ [])) old (now ++ (v ∷ [])) before next
 takes {raw = raw} {Sound = Sound} {Kept = Kept} {weight = weight} {all = all} {x = x} {rest = rest} {found = found} {old = old} next v c is sound kept judges low high s =
     let sum = sum_by-cons weight x rest in
-    let longer = length-append found (c ∷ []) in
-    let few = s.few in
     let least = s.least in
     let most = s.most in
     record {
@@ -83,7 +77,6 @@ takes {raw = raw} {Sound = Sound} {Kept = Kept} {weight = weight} {all = all} {x
           (s.sound (raw c ∷ later) (inl (sound, (later, (ap (λ t. t ∷ later) is, h)))));
       proper = s.proper.1;
       kept = all_push Kept found c s.kept kept;
-      few = omega arith;
       added = s.added ++ (v ∷ []);
       grown = ap (λ l. l ++ (v ∷ [])) s.grown ∙ append_assoc old s.added (v ∷ []);
       judged = λ later h. subst (AllZip _ _) (sym (append_assoc s.added (v ∷ []) later)) (s.judged (v ∷ later) (judges, h));

@@ -1,12 +1,12 @@
 -- What is known of a book that was checked.
-use Rattle.std.specs.Prelude.{◌≡◌, ℕ, ◌≤◌, List, length, map}
+use Rattle.std.specs.Prelude.{◌≡◌, ℕ, List, map}
 use Rattle.std.specs.List.{AllByRecursion}
 use Rattle.std.specs.Coded.{Coded, code_by, coded×, coded_ℕ, coded_list}
 use Rattle.std.proofs.Common.{refl}
 use Rattle.life_cells.specs.Cells.{Cells, alive, coded_cells}
 use Rattle.life_plane.specs.Plane.{IsStill}
-use Rattle.book_parts.specs.Limits.{AreProper}
-use Rattle.book_parts.specs.Proper.{IsProperKind, IsProperHand, IsKindNumber}
+use Rattle.book_parts.specs.Said.{Said}
+use Rattle.book_parts.specs.Proper.{IsProperBook}
 use Rattle.book_parts.specs.declared.settings.Settings.{Settings}
 use Rattle.book_parts.specs.contracts.settings.Settings as settings_row
 use Rattle.book_parts.specs.declared.kind.RawKind.{RawKind}
@@ -43,19 +43,18 @@ raw_salvos salvos = map (λ (salvo : Struck). salvo.raw) salvos
 abbrev pub IsAt : Cells → Struck → Type 0
 IsAt hand salvo = salvo.hand ≡ hand
 
--- the parts of a checked book are proper, its kinds and its hand keep still, its turns are sound under its own settings and kinds, its
--- salvos are sound at its own hand, and its elbow has few states
+-- what a checked book says: its settings, kinds and hand, and its accepted entries as they were stated
+abbrev pub said_of : CheckedEntries → Said
+said_of book = record { settings = book.settings; hand = book.hand; kinds = book.kinds; start = book.start; turns = raws book.turns; salvos = raw_salvos book.salvos }
+
+-- what a checked book says is proper, its kinds and its hand keep still, its turns are sound under its own settings and kinds, its salvos
+-- are sound at its own hand, and its elbow has few states
 pub record IsCheckedBook (book : CheckedEntries) : Type 0 where
-  pub settings : AreProper book.settings
-  pub kinds : AllByRecursion IsProperKind book.kinds
+  pub proper : IsProperBook (said_of book)
   pub valid : AreValid book.settings book.kinds
-  pub start : IsKindNumber (length book.kinds) book.start
-  pub hand : IsProperHand (alive book.hand)
   pub still : IsStill (alive book.hand)
   pub turns : AllByRecursion IsChecked book.turns
   pub own : AllByRecursion (IsOf book.settings book.kinds) book.turns
-  pub few_turns : length book.turns ≤ 1024
   pub salvos : AllByRecursion hit.IsChecked book.salvos
   pub own_salvos : AllByRecursion (IsAt book.hand) book.salvos
-  pub few_salvos : length book.salvos ≤ 4096
   pub states : (count : ℕ) × HasStates (raws book.turns) book.start book.settings.span most_states count

@@ -111,15 +111,15 @@ pub fn check_book<L: Ledger>(
 ) -> Result<(CheckedBook, Vec<Verdict>), BookRefusal>
     requires { IsProperBook book }
     ensures settings { IfOk result (λ r. r.0.settings ≡ book.settings) }
-    ensures kinds { IfOk result (λ r. r.0.kinds ≡ book.kinds.items) }
+    ensures kinds { IfOk result (λ r. r.0.kinds ≡ book.kinds) }
     ensures start { IfOk result (λ r. r.0.start ≡ book.start) }
     ensures hand { IfOk result (λ r. r.0.hand ≡ book.hand) }
-    ensures turns { IfOk result (λ r. AreTheSound book.settings book.kinds.items book.turns.items (raws r.0.turns)) }
-    ensures salvos { IfOk result (λ r. AreTheSoundSalvos (alive book.hand) book.salvos.items (raw_salvos r.0.salvos)) }
-    ensures verdicts { IfOk result (λ r. AreVerdicts book.settings book.kinds.items (alive book.hand) book.turns.items book.salvos.items r.1.items) }
-    ensures refusal { IfErr result (λ e. BookIsRefused book.settings book.hand book.kinds.items book.start book.turns.items e) }
+    ensures turns { IfOk result (λ r. AreTheSound book.settings book.kinds book.turns (raws r.0.turns)) }
+    ensures salvos { IfOk result (λ r. AreTheSoundSalvos (alive book.hand) book.salvos (raw_salvos r.0.salvos)) }
+    ensures verdicts { IfOk result (λ r. AreVerdicts book.settings book.kinds (alive book.hand) book.turns book.salvos r.1.items) }
+    ensures refusal { IfErr result (λ e. BookIsRefused book.settings book.hand book.kinds book.start book.turns e) }
     ensures least { steps.old ≤ steps.new }
-    ensures most { steps.new ≤ steps.old + (((generations book.turns.items + most_hit_generations book.salvos.items) + length book.kinds.items) + 1) }
+    ensures most { steps.new ≤ steps.old + (((generations book.turns + most_hit_generations book.salvos) + length book.kinds) + 1) }
 {
     let settings = book.settings;
     let kinds = valid_kinds(alloc, &settings, book.kinds, steps)?;

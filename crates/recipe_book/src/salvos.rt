@@ -49,7 +49,6 @@ pub(crate) fn sound_salvos<L: Ledger>(
     requires { AllByRecursion IsProperSalvo salvos.items }
     ensures sound { IfOk result (λ found. AreTheSoundSalvos (alive hand.now) salvos.items (raw_salvos found.items)) }
     ensures kept { IfOk result (λ found. AllByRecursion (IsKeptSalvo hand.now) found.items) }
-    ensures few { IfOk result (λ found. length found.items ≤ length salvos.items) }
     ensures verdicts { OnOk result (AddsVerdicts (IsSalvoVerdict (alive hand.now)) salvos.items verdicts.old.items verdicts.new.items) }
     ensures least { steps.old ≤ steps.new }
     ensures most { steps.new ≤ steps.old + most_hit_generations salvos.items }

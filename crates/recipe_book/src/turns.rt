@@ -55,7 +55,6 @@ pub(crate) fn sound_turns<L: Ledger>(
     requires turns { AllByRecursion (IsProperTurn (length kinds.now.raw)) turns.items }
     ensures sound { IfOk result (λ found. AreTheSound settings.now kinds.now.raw turns.items (raws found.items)) }
     ensures kept { IfOk result (λ found. AllByRecursion (IsKeptTurn settings.now kinds.now.raw) found.items) }
-    ensures few { IfOk result (λ found. length found.items ≤ length turns.items) }
     ensures verdicts { OnOk result (AddsVerdicts (IsTurnVerdict settings.now kinds.now.raw) turns.items verdicts.old.items verdicts.new.items) }
     ensures least { steps.old ≤ steps.new }
     ensures most { steps.new ≤ steps.old + generations turns.items }

@@ -131,8 +131,8 @@ whole book list b least =
       chosen = chosen;
       closing = record { walk = w.walk; sound = sound_here book.settings book.kinds b.valid w.picked right (pos 0) 0; valid = valid_of book.settings no_past _ chosen };
       near = λ few. let same = numbered_length (raws book.turns) list w.picked w.are in
-          near_in_range _ (both_near (kind_plane book.kinds book.start) (stream book.settings (timed w.picked (pos 0) 0)) (placed_near _ (kind_placed book.kinds b.kinds book.start b.start))
-          (stream_near book.settings b.settings.approach (length book.kinds) w.picked (all_proper book.settings book.kinds w.picked right) 0 (pos 0) 0 (omega arith)
+          near_in_range _ (both_near (kind_plane book.kinds book.start) (stream book.settings (timed w.picked (pos 0) 0)) (placed_near _ (kind_placed book.kinds b.proper.kinds book.start b.proper.start))
+          (stream_near book.settings b.proper.settings.approach (length book.kinds) w.picked (all_proper book.settings book.kinds w.picked right) 0 (pos 0) 0 (omega arith)
           (record { west = omega (arith, ints); east = omega (arith, ints); late = omega arith })));
     }
 
@@ -142,7 +142,7 @@ pattern_is book ms = shift_none (union (kind_plane book.kinds book.start) (strea
 
 pub vanishes : (book : CheckedEntries) (ms : List Timed) → IsCheckedBook book → IsClosingStream book.settings book.kinds book.start ms →
     run (last_end ms) (pattern book.settings book.kinds book.start ms (cell (pos 0) (pos 0))) ≡ nothing
-vanishes book ms b c = closing_stream_vanishes book.settings b.settings book.kinds book.start ms (cell (pos 0) (pos 0)) c
+vanishes book ms b c = closing_stream_vanishes book.settings b.proper.settings book.kinds book.start ms (cell (pos 0) (pos 0)) c
 
 -- the turns of the least list
 pub picked_of : (book : CheckedEntries) (list : List ℕ) → IsCheckedBook book → IsClosing (raws book.turns) book.settings.span book.start list → (picked : List RawTurn) × AreNumbered (raws book.turns) list picked

@@ -22,14 +22,10 @@ returns-then-reach-wall-clause-err c =
     )
 
 pub returns-clause-ok : goal.returns-clause-ok
-returns-clause-ok c =
-    let settings = c.in-Ok.settings in (
-      said_of c.args.draft settings c.unwrap.result c.in-Some.start,
-      (
-        all_stated c.args.draft settings c.unwrap.result c.in-Some.start c.in-Ok.ensures.ok c.unwrap.ensures c.in-Some.is,
-        (some_item c.args.draft.kinds.items (c.if-is_empty.ensures ∙ ap (λ (n : ℕ). n == 0) c.args.draft.kinds.ok.0), record { settings = refl; hand = refl; kinds = refl; start = refl; turns = refl; salvos = refl }),
-      ),
-    )
+returns-clause-ok c = (
+  all_stated c.args.draft c.in-Ok.settings c.unwrap.result c.in-Some.start c.in-Ok.ensures.ok c.unwrap.ensures c.in-Some.is,
+  some_item c.args.draft.kinds.items (c.if-is_empty.ensures ∙ ap (λ (n : ℕ). n == 0) c.args.draft.kinds.ok.0),
+)
 
 pub returns-clause-far : goal.returns-clause-far
 returns-clause-far c =

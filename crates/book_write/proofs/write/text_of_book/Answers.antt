@@ -1,9 +1,11 @@
 -- The lines, one part after the other.
 use Rattle.std.proofs.Common.{◌≡◌, ◌++◌, ◌∷◌, [], List, ℕ, map, refl, ◌∙◌, ap, subst}
 use Rattle.std.specs.List.{AllZip}
+use Rattle.book_parts.specs.Said.{Said}
 use Rattle.book_parts.specs.declared.kind.RawKind.{RawKind}
 use Rattle.book_parts.specs.declared.turn.RawTurn.{RawTurn}
 use Rattle.book_parts.specs.declared.salvo.RawSalvo.{RawSalvo}
+use Rattle.book_write.specs.Canonical.{IsBookText}
 use Rattle.book_write.specs.Laid.{ended_line, text_of}
 use Rattle.book_write.specs.Parts.{version_words, settings_words, IsKindLine, start_words, turn_words, IsSalvoLine}
 use Rattle.book_write.proofs.Laying.{grouped, lines_laid, one_line}
@@ -14,10 +16,11 @@ returns c =
     let hand = c.in_ok-push_hand.ensures in
     let kinds = c.in_ok-push_kinds.ensures in
     let salvos = c.in_ok-push_salvos.ensures in
-    let start = subst (λ (ks : List RawKind). c.push_start.new.text.items ≡ c.push_kinds.new.text.items ++ ended_line (start_words ks c.args.book.now.start)) c.deref-2.ensures.value c.in_ok-push_start.ensures in
+    let start = subst (λ (ks : List RawKind). c.push_start.new.text.items ≡ c.push_kinds.new.text.items ++ ended_line (start_words ks c.book.inside.start)) c.deref-2.ensures.value c.in_ok-push_start.ensures in
     let some_turns = subst (λ (ts : List RawTurn). c.push_turns.new.text.items ≡ c.push_start.new.text.items ++ text_of (map (turn_words c.deref-3.result.now) ts)) c.deref-4.ensures.value c.in_ok-push_turns.ensures in
-    let turns = subst (λ (ks : List RawKind). c.push_turns.new.text.items ≡ c.push_start.new.text.items ++ text_of (map (turn_words ks) c.args.book.now.turns.items)) c.deref-3.ensures.value some_turns in
-    let groups = (version_words ∷ []) ∷ (settings_words c.args.book.now.settings ∷ ((hand.0 ∷ []) ∷ (kinds.0 ∷ ((start_words c.args.book.now.kinds.items c.args.book.now.start ∷ []) ∷ (map (turn_words c.args.book.now.kinds.items) c.args.book.now.turns.items ∷ (salvos.0 ∷ [])))))) in
+    let turns = subst (λ (ks : List RawKind). c.push_turns.new.text.items ≡ c.push_start.new.text.items ++ text_of (map (turn_words ks) c.book.inside.turns.items)) c.deref-3.ensures.value some_turns in
+    let groups = (version_words ∷ []) ∷ (settings_words c.book.inside.settings ∷ ((hand.0 ∷ []) ∷ (kinds.0 ∷ ((start_words c.book.inside.kinds.items c.book.inside.start ∷ []) ∷ (map (turn_words c.book.inside.kinds.items) c.book.inside.turns.items ∷ (salvos.0 ∷ [])))))) in
+    subst (λ (b : Said). IsBookText b c.push_salvos.new.text.items) c.book.view_is
     record {
       hand = hand.0;
       kinds = kinds.0;
@@ -42,7 +45,7 @@ returns c =
                         _,
                         (
                           kinds.1.0,
-                          (_, (one_line _ _ (start_words c.args.book.now.kinds.items c.args.book.now.start) start, (_, (turns, (_, (salvos.1.0, refl)))))),
+                          (_, (one_line _ _ (start_words c.book.inside.kinds.items c.book.inside.start) start, (_, (turns, (_, (salvos.1.0, refl)))))),
                         ),
                       ),
                     ),

@@ -8,4 +8,4 @@ pub returns-in-Ok-clause-err : goal.returns-in-Ok-clause-err
 returns-in-Ok-clause-err g c = planning_read c.args.book c.in-Ok.book c.written.result c.in-Ok.ensures.ok c.written.ensures.err
 
 pub returns-in-Err-clause-err : goal.returns-in-Err-clause-err
-returns-in-Err-clause-err g c = λ said is. check_refused said c.in-Err.status (c.in-Err.ensures.err said is)
+returns-in-Err-clause-err g c = check_refused c.args.book c.in-Err.status c.in-Err.ensures.err

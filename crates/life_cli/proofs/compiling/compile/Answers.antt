@@ -10,28 +10,25 @@ use Rattle.life_cli.proofs.compiling.compile.Goals as goal
 
 pub returns-in-Ok-clause-ok : goal.returns-in-Ok-clause-ok
 returns-in-Ok-clause-ok g c =
-    let b = c.in_ok-book.ensures.ok in
     let P : Option (List HeldText) → Type 0 = λ told. IfSome told (λ texts. HoldsPattern texts c.args.target_name.now nothing) in
-    answer_given (g.D.Depot.texts c.args.depot.now) c.args.book_name.now c.args.target_name.now c.in_ok-book.book b.0 c.answer_of.result
-    b.1.0 b.1.1 (subst P c.fetch_book.ensures.texts_stay c.in-Ok.ensures.ok) c.answer_of.ensures.ok
+    answer_given (g.D.Depot.texts c.args.depot.now) c.args.book_name.now c.args.target_name.now c.in_ok-book.book c.answer_of.result
+    c.in_ok-book.ensures.ok (subst P c.fetch_book.ensures.texts_stay c.in-Ok.ensures.ok) c.answer_of.ensures.ok
 
 pub returns-in-Ok-clause-err : goal.returns-in-Ok-clause-err
 returns-in-Ok-clause-err g c =
-    let b = c.in_ok-book.ensures.ok in
     let P : Option (List HeldText) → Type 0 = λ told. IfSome told (λ texts. HoldsPattern texts c.args.target_name.now nothing) in
-    answer_refuses (g.D.Depot.texts c.args.depot.now) c.args.book_name.now c.args.target_name.now _ _ c.in_ok-book.book b.0 c.answer_of.result
-    b.1.0 b.1.1 (subst P c.fetch_book.ensures.texts_stay c.in-Ok.ensures.ok) c.answer_of.ensures.err
+    answer_refuses (g.D.Depot.texts c.args.depot.now) c.args.book_name.now c.args.target_name.now _ _ c.in_ok-book.book c.answer_of.result
+    c.in_ok-book.ensures.ok (subst P c.fetch_book.ensures.texts_stay c.in-Ok.ensures.ok) c.answer_of.ensures.err
 
 pub returns-in-Err-clause-err : goal.returns-in-Err-clause-err
 returns-in-Err-clause-err g c =
-    let b = c.in_ok-book.ensures.ok in
     let P : Option (List HeldText) → Type 0 =
     λ told. TargetReadingIsRefused told c.args.target_name.now (g.D.Depot.faults c.fetch_book.new.depot) (g.D.Depot.faults c.fetch_target.new.depot) c.in-Err.status in
     let Q : ℕ → Type 0 =
     λ before. CompilingIsRefused (g.D.Depot.texts c.args.depot.now) c.args.book_name.now c.args.target_name.now before (g.D.Depot.faults c.fetch_target.new.depot) c.in-Err.status in
     subst Q (c.in_ok-book.ensures.no_fault (λ e. cc))
-    (target_refuses (g.D.Depot.texts c.args.depot.now) c.args.book_name.now c.args.target_name.now _ _ b.0 c.in-Err.status b.1.1 (subst P c.fetch_book.ensures.texts_stay c.in-Err.ensures.err))
+    (target_refuses (g.D.Depot.texts c.args.depot.now) c.args.book_name.now c.args.target_name.now _ _ c.in_ok-book.book c.in-Err.status c.in_ok-book.ensures.ok (subst P c.fetch_book.ensures.texts_stay c.in-Err.ensures.err))
 
 pub returns-in-Ok-clause-quiet_serves : goal.returns-in-Ok-clause-quiet_serves
 returns-in-Ok-clause-quiet_serves g c = λ quiet book_held target_held fault.
-    let b = c.in_ok-book.ensures.ok in no_read_fault c.in_ok-book.book b.0 c.answer_of.result b.1.0 c.answer_of.ensures.err fault
+    no_read_fault c.in_ok-book.book c.answer_of.result c.answer_of.ensures.err fault

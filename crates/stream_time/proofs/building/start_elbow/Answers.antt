@@ -7,4 +7,4 @@ use Rattle.stream_time.proofs.building.start_elbow.Goals as goal
 pub returns : goal.returns
 returns c =
     ap (λ (kind : RawKind). alive kind.cells) (c.index-kinds-start.is ∙ ap (λ (kinds : List RawKind). get_or kinds (c.start.result - 1) c.index-kinds-start.result) c.kinds-kinds.ensures ∙ ap (λ k. get_or c.args.book.now.kinds (k - 1) c.index-kinds-start.result) c.start.ensures)
-    ∙ kind_at c.args.book.now.kinds c.args.book.now.start c.index-kinds-start.result c.settings.ensures.checked.start
+    ∙ kind_at c.args.book.now.kinds c.args.book.now.start c.index-kinds-start.result c.settings.ensures.checked.proper.start
