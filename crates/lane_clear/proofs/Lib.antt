@@ -1,0 +1,3 @@
+-- Lemmas on clearance.
+pub mod FirstFailing
+pub mod CellTests

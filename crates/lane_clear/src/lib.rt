@@ -1,0 +1,13 @@
+//! Whether a hit, moved to the hand's place, is clear of what is built: its bounds, and the way of its glider. x goes right and y goes down;
+//! u = x - y and v = x + y. No call takes memory.
+#![tactic(auto)]
+
+pub mod clearance;
+pub mod laws;
+mod looking;
+pub mod moved;
+pub mod refusal;
+
+pub use clearance::clear_hit;
+pub use moved::moved_frame;
+pub use refusal::ClearRefusal;
