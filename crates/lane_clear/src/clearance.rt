@@ -44,11 +44,7 @@ fn test_reach(settings: &Settings, bounds: Bounds) -> Result<(), ClearRefusal>
 }
 
 // Whether a hit of this frame is clear of what is built.
-fn clear_there(
-    settings: &Settings,
-    built: &CellSet,
-    frame: HitFrame,
-) -> Result<(), ClearRefusal>
+fn clear_there(settings: &Settings, built: &CellSet, frame: HitFrame) -> Result<(), ClearRefusal>
     requires settings { AreProper settings.now }
     requires built { IsInRange farthest (alive built.now) }
     requires frame { IsFrameInRange (2 ^ 54) frame }

@@ -21,7 +21,7 @@ ghost use Rattle.lane_clear.specs.declared.refusal.ClearRefusal.{ClearRefusal};
 pub fn hits_move_with_the_hand()
     ensures { (place : Cell) (struck : Plane) (hit : Hit) (h : IsHit struck hit.frame.lane hit) →
         scene.IsHit (shift place.x place.y struck) (as_box (moved_bounds place h.box)) (moved_frame place hit.frame).lane (moved_frame place hit.frame).start hit.generations
-            (shift place.x place.y (alive hit.after)) (as_box (moved_frame place hit.frame).bounds) }
+        (shift place.x place.y (alive hit.after)) (as_box (moved_frame place hit.frame).bounds) }
 {}
 
 /// A clear hit's bounds, and its glider up to where the hit begins, stay apart from what is built.

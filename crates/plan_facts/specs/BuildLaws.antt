@@ -12,7 +12,8 @@ use Rattle.recipe_hit.specs.Strike.{IsHit}
 use Rattle.stream_time.specs.Schedule.{Timed, end, advance_of, Thrown, throw_after, IsBehindTurn, IsBehindThrow}
 use Rattle.stream_time.specs.SceneTurns.{rules, throw_of, placed}
 use Rattle.stream_time.specs.SceneTurnLaws.{sound_turn, valid_kind, no_kind}
-use Rattle.plan_facts.specs.Happenings.{SalvoHit, Happening, frame_of, moved_bounds, events_of}
+use Rattle.lane_clear.specs.Frames.{moved_bounds}
+use Rattle.plan_facts.specs.Happenings.{SalvoHit, Happening, frame_of, events_of}
 use Rattle.plan_facts.specs.State.{State, hand_plane, left_by}
 use Rattle.plan_facts.specs.MayTurn.{MayTurn, lane_thrown, after_turn}
 use Rattle.plan_facts.specs.MayHit.{MayHit, after_hit, built_after, hand_after}
@@ -20,7 +21,7 @@ use Rattle.plan_facts.specs.ListLaws.{GoesWell}
 use Rattle.plan_facts.specs.SalvoLaws.{hit_in_turn}
 use Rattle.plan_facts.specs.StrikesThereLaws.{stands_is}
 use Rattle.recipe_hit.specs.SceneHitLaws.{as_box}
-use Rattle.plan_facts.specs.MovedFrameLaws.{hit_at}
+use Rattle.lane_clear.specs.MovedFrameLaws.{hit_at}
 use Rattle.life_scene.specs.HitLaws.{struck_inside}
 use Rattle.plan_facts.specs.HitLeaves.{left_of, LeavesBoth}
 use Rattle.plan_facts.specs.HitLeavesLaws.{may_leave}

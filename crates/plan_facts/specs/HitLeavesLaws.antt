@@ -10,15 +10,17 @@ use Rattle.life_plane.specs.Apart.{Apart}
 use Rattle.life_plane.specs.Strips.{Each, apart_symmetric, apart_union}
 use Rattle.life_scene.specs.HandSide.{Rests}
 use Rattle.recipe_hit.specs.Sound.{IsSound, left_hand}
-use Rattle.plan_facts.specs.Happenings.{SalvoHit, frame_of, moved_bounds}
-use Rattle.plan_facts.specs.Clear.{IsClear}
+use Rattle.lane_clear.specs.Frames.{moved_bounds}
+use Rattle.plan_facts.specs.Happenings.{SalvoHit, frame_of}
+use Rattle.lane_clear.specs.Clear.{IsClear}
+use Rattle.lane_clear.specs.ClearLaws.{clear_stays_apart}
 use Rattle.plan_facts.specs.State.{hand_plane, State, left_by}
 use Rattle.plan_facts.specs.MayHit.{is_last, hand_left, built_after, hand_after, MayHit}
 use Rattle.life_plane.specs.StillLaws.{first_still, second_still, still_union, apart_moved}
 use Rattle.plan_facts.specs.SalvoLaws.{IsHitInTurn, all_left, hit_in_turn}
 use Rattle.recipe_hit.specs.SceneHitLaws.{as_box}
 use Rattle.plan_facts.specs.HitLeaves.{left_of, LeavesBoth}
-use Rattle.plan_facts.specs.MovedFrameLaws.{hit_at}
+use Rattle.lane_clear.specs.MovedFrameLaws.{hit_at}
 use Rattle.life_scene.specs.HitLaws.{left_inside}
 use Rattle.life_scene.specs.Hits as scene
 use Rattle.life_cells.specs.Cells.{alive}
@@ -29,9 +31,7 @@ use Rattle.book_parts.specs.declared.settings.Settings.{Settings}
 
 -- what lies in bounds is apart from what is off them
 pub off_apart : (settings : Settings) (built : Plane) (h : SalvoHit) (s : Plane) → IsClear settings built (frame_of h) → Each (scene.InBox (as_box (frame_of h).bounds)) s → Apart built s
-off_apart settings built h s clear inside = record {
-  far = λ x y u v p q w. let i = inside u v q in clear.near x y p u v (record { right_of_left = i.left; below_top = i.top; left_of_right = i.right; above_bottom = i.bottom }) w;
-}
+off_apart settings built h s clear inside = (clear_stays_apart settings built (frame_of h) clear).hit s inside
 
 -- the hand where a salvo leaves it, from where it stood
 pub hand_moved : (hand : Plane) (place : Cell) (to : Option Cell) → hand_plane hand (hand_left place to) ≡ shift place.x place.y (left_hand hand to)
