@@ -12,7 +12,7 @@ use Rattle.life_cells.specs.Boxes.{IsInRange}
 use Rattle.life_cells.specs.BoxLaws.{IsCellInRange}
 use Rattle.life_cells.specs.Laws.{alive-in_order, place_of_listed}
 use Rattle.life_cells.specs.Listed.{same_cell, listed}
-use Rattle.life_cells.specs.Order.{same_cell-itself}
+use Rattle.life_cells.specs.OrderLaws.{same_cell-itself}
 use Rattle.std.proofs.lemmas.List.Folds.{list_any_at}
 use Rattle.life_cells.specs.Firsts.{IsFirstOf}
 use Rattle.life_cells.specs.FirstLaws.{first_place}
