@@ -20,7 +20,7 @@ use Rattle.rle_items.specs.declared.item.Tag.TheVariants.{Dead, Alive, RowEnd}
 use Rattle.rle_items.specs.Items.{rows, columns, AreCells}
 use Rattle.life_rle.specs.Written.{may_follow, IsTidyAfter}
 use Rattle.life_rle.specs.Drawn.{some_of, IsBehind, IsAhead, IsNext, IsGapInRow, IsGapDown, IsGap, HasGap, StartsAfter, IsTidyFrom, AreSmall}
-use Rattle.rle_items.specs.Below.{cases_below}
+use Rattle.life_plane.specs.NumberLaws.{cases_below}
 use Rattle.life_rle.proofs.Made.{IsRun, none_made, made_front, made_some_live, made_some_run, cells_same, rows-some_longer, rows-some_ended, columns-some_longer, columns-some_ended}
 
 both_first : (a b : Bool) → (a && b) ≡ true → a ≡ true

@@ -5,12 +5,12 @@ use Rattle.std.specs.Char.{is_ascii_digit, to_ascii_lowercase}
 use Rattle.std.proofs.lemmas.List.{append-nil, append_cancel_left, drop_more, drop_all}
 use Rattle.std.proofs.lemmas.Bool.{and_parts, not-true, not-false, cases_Bool, or_cases, eqb-true, ne_eqb}
 use Rattle.rle_items.specs.Numbers.{IsDigits, value}
-use Rattle.rle_items.specs.Faults.{IsAtCount}
+use Rattle.rle_items.specs.Gaps.{IsAtCount}
 use Rattle.rle_items.specs.SpellingLaws.{one_count, digit_range}
 use Rattle.text_lines.specs.Blanks.{is_blank_byte, IsBlank, IsPassedOver}
 use Rattle.life_rle.specs.Header.{IsPast, IsPastNumber, IsPastValue, BeginsWithSize, GivesRule, IsRuleName, NamesLife, HasHeaderForm, IsHeader}
 use Rattle.life_rle.specs.HeaderRead.{IsPastBlanks, BeginsInked, IsWordOf}
-use Rattle.life_rle.proofs.Firsts.{cut_at, none_passes}
+use Rattle.rle_items.specs.Firsts.{cut_at, none_passes}
 
 pub if_some : {X : Type 0} (P : Type 0) (Q : X → Type 0) (r : Option X) → MatchOption r P Q → IfSome r Q
 if_some P Q None h = tt

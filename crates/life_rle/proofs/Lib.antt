@@ -1,16 +1,11 @@
 -- Lemmas of the reader: lines, the header, comments and items.
-pub mod Firsts
 pub mod Lined
 pub mod Headers
 pub mod Starting
 pub mod Placing
-pub mod Seen
-pub mod Skipped
-pub mod TagPlaces
-pub mod TextSoFar
+pub mod Blanking
 pub mod Meaning
 pub mod OneMeaning
-pub mod OneFault
 pub mod OneText
 -- Lemmas of the writer.
 pub mod Made
@@ -19,6 +14,5 @@ pub mod Heading
 pub mod Framing
 pub mod ReadBack
 pub mod Whole
-pub mod WrittenFine
 pub mod WrittenLines
 pub mod OneWriting

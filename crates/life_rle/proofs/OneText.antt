@@ -2,77 +2,28 @@
 use Rattle.std.proofs.Common.{◌≡◌, ◌≢◌, ℕ, ◌+◌, ◌<◌, ◌⊎◌, false, List, [], ◌∷◌, ◌++◌, length, refl, sym, ap, ◌∙◌, subst, inl, inr, arith}
 use Rattle.std.specs.List.{AllByRecursion}
 use Rattle.std.specs.Str.Lines.{lines}
-use Rattle.std.proofs.lemmas.List.{append_assoc}
 use Rattle.life_cells.specs.declared.cell.Cell.{Cell}
 use Rattle.rle_items.specs.declared.item.Item.{Item}
-use Rattle.rle_items.specs.Spelling.{Spells, IsWhite}
-use Rattle.rle_items.specs.Reach.{IsInReach, AreFineFrom}
-use Rattle.rle_items.specs.SpellingLaws.{white_kind, GoesOnWith, one_goes_on, goes_on_by_item, IsSamePlace, same_place, end_stops}
-use Rattle.life_rle.specs.declared.error.RleError.{RleError}
-use Rattle.life_rle.specs.declared.error.RleError.TheVariants.{NoHeader, BadHeader, BadRule, BadItem, BadCount, NoEnd, TooFar, TooMany, Memory}
+use Rattle.rle_items.specs.declared.error.BodyError.{BodyError}
+use Rattle.rle_items.specs.declared.error.BodyError.TheVariants as item
+use Rattle.rle_items.specs.Spelling.{IsWhite}
+use Rattle.rle_items.specs.Reach.{IsInReach}
+use Rattle.rle_items.specs.ItemFaults.{ItemsStopWith, IsForLimit as IsForItemLimit}
+use Rattle.rle_items.specs.ItemLaws.{reach_of_none}
+use Rattle.rle_items.specs.SpellingLaws.{white_kind}
+use Rattle.rle_items.specs.OneReadingLaws.{one_items_refusal, fine_items_are_read, said_items_are_limited}
 use Rattle.text_lines.specs.Lines.{first_line, behind}
 use Rattle.text_lines.specs.Blanks.{IsPassedOver}
+use Rattle.text_lines.specs.LineLaws.{lines_step}
+use Rattle.life_rle.specs.declared.error.RleError.{RleError}
+use Rattle.life_rle.specs.declared.error.RleError.TheVariants.{NoHeader, BadHeader, BadRule, BadItem, BadCount, NoEnd, TooFar, TooMany, Memory}
 use Rattle.life_rle.specs.Comments.{blanked}
 use Rattle.life_rle.specs.Header.{HasHeaderForm, IsHeader}
 use Rattle.life_rle.specs.Text.{gives_place, IsAtHeader, HasBody, Says}
-use Rattle.life_rle.specs.TextFaults.{HasBadHeader, HasBadRule, HasFarPlace, HasPlaceLine, IsFineText, IsItemFault, ItemsStopWith, BodyStopsWith, TextStopsWith, IsForLimit}
+use Rattle.life_rle.specs.TextFaults.{of_items, HasBadHeader, HasBadRule, HasFarPlace, HasPlaceLine, IsFineText, BodyStopsWith, TextStopsWith, IsForLimit}
 use Rattle.life_rle.proofs.Headers.{form_of_header}
 use Rattle.life_rle.proofs.Lined.{one_rest, lines_split}
-use Rattle.text_lines.specs.LineLaws.{lines_step}
 use Rattle.life_rle.proofs.OneMeaning.{one_head, one_body}
-use Rattle.life_rle.proofs.OneFault.{one_fault, no_fault_before_next, limit_before_next, no_fault_at_end, item_of_next}
-use Rattle.life_rle.proofs.TextSoFar.{reach_of_none}
-
--- ---- the items
-
--- a reading does not go on from a fault
-fault_stops : (text : List ℕ) (place : Cell) (rest last : List ℕ) (items others : List Item) (e : RleError) → e ≢ Memory → IsItemFault text place rest items e → AreFineFrom place others
-    → GoesOnWith IsWhite white_kind items rest others last → IsSamePlace IsWhite white_kind items rest others last
-fault_stops text place rest last items others e some fault fine h =
-    same_place IsWhite white_kind items rest others last h
-    (λ i back after is next. no_fault_before_next text place rest items e some fault i next.tag after (item_of_next rest i after next) (fine.near _ back is) (fine.few _ back is))
-
-module _ (text : List ℕ) (place : Cell) (body : List ℕ) where
-  same_stop : (e f : RleError) (p : ItemsStopWith text place body e) (q : ItemsStopWith text place body f) → e ≢ Memory → f ≢ Memory → IsSamePlace IsWhite white_kind p.items p.rest q.items q.rest → e ≡ f
-  same_stop e f p q some other same =
-      one_fault text place q.rest q.items e f some other
-      (subst (λ (is : List Item). IsItemFault text place q.rest is e) same.items_are (subst (λ (bs : List ℕ). IsItemFault text place bs p.items e) same.rest_is p.fault)) q.fault
-
-  one_items_refusal : (e f : RleError) → ItemsStopWith text place body e → ItemsStopWith text place body f → e ≢ Memory → f ≢ Memory → e ≡ f
-  one_items_refusal e f p q some other =
-      elim (one_goes_on IsWhite white_kind p.items q.items p.read.front q.read.front p.rest q.rest p.read.spelled q.read.spelled (sym p.read.split ∙ q.read.split)) [
-        | inl h ↦ same_stop e f p q some other (fault_stops text place p.rest q.rest p.items q.items e some p.fault q.read.fine h)
-        | inr h ↦ sym (same_stop f e q p other some (fault_stops text place q.rest p.rest q.items p.items f other q.fault p.read.fine h))
-      ]
-
-  module _ (e : RleError) (some : e ≢ Memory) (p : ItemsStopWith text place body e) (items : List Item) (written gap ignored : List ℕ) (white : IsWhite gap)
-      (whole : blanked body ≡ (written ++ gap) ++ (33 ∷ ignored)) (spelled : Spells IsWhite written items) where
-    stop_at_end : p.rest ≡ gap ++ (33 ∷ ignored) → ⊥
-    stop_at_end end = no_fault_at_end text place p.rest p.items e some p.fault gap ignored white end
-
-    goes_on : GoesOnWith IsWhite white_kind p.items p.rest items (gap ++ (33 ∷ ignored)) ⊎ GoesOnWith IsWhite white_kind items (gap ++ (33 ∷ ignored)) p.items p.rest
-    goes_on = one_goes_on IsWhite white_kind p.items items p.read.front written p.rest (gap ++ (33 ∷ ignored)) p.read.spelled spelled (sym p.read.split ∙ whole ∙ append_assoc written gap (33 ∷ ignored))
-
-    end_first : GoesOnWith IsWhite white_kind items (gap ++ (33 ∷ ignored)) p.items p.rest → ⊥
-    end_first h = stop_at_end (sym (end_stops IsWhite white_kind items p.items (gap ++ (33 ∷ ignored)) gap ignored p.rest white refl h).rest_is)
-
-    fine_items_are_read : AreFineFrom place items → ⊥
-    fine_items_are_read fine = elim goes_on [
-      | inl h ↦ stop_at_end (fault_stops text place p.rest (gap ++ (33 ∷ ignored)) p.items items e some p.fault fine h).rest_is
-      | inr h ↦ end_first h
-    ]
-
-    stop_for_limit : (more : List Item) (between : List ℕ) → p.rest ≡ between ++ (gap ++ (33 ∷ ignored)) → Spells IsWhite between more → IsForLimit e
-    stop_for_limit [] between f q = absurd (stop_at_end (f ∙ ap (λ (bs : List ℕ). bs ++ (gap ++ (33 ∷ ignored))) q))
-    stop_for_limit (i ∷ more) between f q =
-        let next = goes_on_by_item IsWhite white_kind p.rest between (gap ++ (33 ∷ ignored)) i more f q in
-        limit_before_next text place p.rest p.items e some p.fault i next.1.tag next.0 (item_of_next p.rest i next.0 next.1)
-
-    said_items_are_limited : IsForLimit e
-    said_items_are_limited = elim goes_on [
-      | inl h ↦ stop_for_limit h.more h.between h.rest_is h.spelled
-      | inr h ↦ absurd (end_first h)
-    ]
 
 -- ---- the header
 
@@ -96,15 +47,16 @@ one_place_line text at there p q =
     let right = q.place in
     omega (arith, ap length same.rests)
 
-far_or_near : (text : List ℕ) (at : ℕ) (e : RleError) → HasFarPlace text at → BodyStopsWith text e → ⊥
+far_or_near : (text : List ℕ) (at : ℕ) (e : BodyError) → HasFarPlace text at → BodyStopsWith text e → ⊥
 far_or_near text at e p q =
     let same = one_body text p.place q.place p.body q.body p.has_body q.has_body in
     p.far (subst IsInReach (sym same.0) (reach_of_none q.place (q.stops.read.fine.near [] q.stops.items refl)))
 
-one_body_refusal : (text : List ℕ) (e f : RleError) → BodyStopsWith text e → BodyStopsWith text f → e ≢ Memory → f ≢ Memory → e ≡ f
+one_body_refusal : (text : List ℕ) (e f : BodyError) → BodyStopsWith text e → BodyStopsWith text f → e ≢ item.Memory → f ≢ item.Memory → e ≡ f
 one_body_refusal text e f p q some other =
     let same = one_body text p.place q.place p.body q.body p.has_body q.has_body in
-    one_items_refusal text q.place q.body e f (subst (λ (body : List ℕ). ItemsStopWith text q.place body e) same.1 (subst (λ (place : Cell). ItemsStopWith text place p.body e) same.0 p.stops)) q.stops some other
+    one_items_refusal IsWhite white_kind text q.place (blanked q.body) e f
+    (subst (λ (body : List ℕ). ItemsStopWith IsWhite text q.place (blanked body) e) same.1 (subst (λ (place : Cell). ItemsStopWith IsWhite text place (blanked p.body) e) same.0 p.stops)) q.stops some other
 
 -- ---- where a refusal comes from
 
@@ -127,8 +79,14 @@ record IsOfPlace (text : List ℕ) (e : RleError) : Type 0 where
   far : HasFarPlace text at
   is : e ≡ TooFar at
 
+record IsOfItems (text : List ℕ) (e : RleError) : Type 0 where
+  fault : BodyError
+  some : fault ≢ item.Memory
+  stops : BodyStopsWith text fault
+  is : e ≡ of_items fault
+
 abbrev IsOf : List ℕ → RleError → Type 0
-IsOf text e = IsOfNoHeader text e ⊎ (IsOfHeader text e ⊎ (IsOfPlace text e ⊎ BodyStopsWith text e))
+IsOf text e = IsOfNoHeader text e ⊎ (IsOfHeader text e ⊎ (IsOfPlace text e ⊎ IsOfItems text e))
 
 of_bad_header : (text : List ℕ) (line : ℕ) → HasBadHeader text line → IsOfHeader text (BadHeader line)
 of_bad_header text line h = record {
@@ -147,11 +105,11 @@ sorted text NoHeader some h = inl (record { all = h; is = refl })
 sorted text (BadHeader line) some h = inr (inl (of_bad_header text line h))
 sorted text (BadRule line) some h = inr (inl (of_bad_rule text line h))
 sorted text (TooFar at) some (inl h) = inr (inr (inl (record { at = at; far = h; is = refl })))
-sorted text (TooFar at) some (inr h) = inr (inr (inr h))
-sorted text (BadItem at) some h = inr (inr (inr h))
-sorted text (BadCount at) some h = inr (inr (inr h))
-sorted text NoEnd some h = inr (inr (inr h))
-sorted text (TooMany count) some h = inr (inr (inr h))
+sorted text (TooFar at) some (inr h) = inr (inr (inr (record { fault = item.TooFar at; some = λ e. cc; stops = h; is = refl })))
+sorted text (BadItem at) some h = inr (inr (inr (record { fault = item.BadItem at; some = λ e. cc; stops = h; is = refl })))
+sorted text (BadCount at) some h = inr (inr (inr (record { fault = item.BadCount at; some = λ e. cc; stops = h; is = refl })))
+sorted text NoEnd some h = inr (inr (inr (record { fault = item.NoEnd; some = λ e. cc; stops = h; is = refl })))
+sorted text (TooMany count) some h = inr (inr (inr (record { fault = item.TooMany count; some = λ e. cc; stops = h; is = refl })))
 sorted text Memory some h = absurd (some refl)
 
 one_header : (line : List ℕ) (number : ℕ) (e f : RleError) → TellsHeader line number e → TellsHeader line number f → e ≡ f
@@ -178,28 +136,28 @@ same_refusal : (text : List ℕ) (e f : RleError) → e ≢ Memory → f ≢ Mem
 same_refusal text e f some other (inl p) (inl q) = p.is ∙ sym q.is
 same_refusal text e f some other (inl p) (inr (inl q)) = absurd (no_header_within text q.head q.rest p.all q.at_header)
 same_refusal text e f some other (inl p) (inr (inr (inl q))) = absurd (no_header_within text q.far.has_body.head q.far.has_body.rest p.all q.far.has_body.at_header)
-same_refusal text e f some other (inl p) (inr (inr (inr q))) = absurd (no_header_within text q.has_body.head q.has_body.rest p.all q.has_body.at_header)
+same_refusal text e f some other (inl p) (inr (inr (inr q))) = absurd (no_header_within text q.stops.has_body.head q.stops.has_body.rest p.all q.stops.has_body.at_header)
 same_refusal text e f some other (inr (inl p)) (inl q) = absurd (no_header_within text p.head p.rest q.all p.at_header)
 same_refusal text e f some other (inr (inl p)) (inr (inl q)) = one_header_refusal text e f p q
 same_refusal text e f some other (inr (inl p)) (inr (inr (inl q))) = absurd (header_or_body text e q.far.place q.far.body p q.far.has_body)
-same_refusal text e f some other (inr (inl p)) (inr (inr (inr q))) = absurd (header_or_body text e q.place q.body p q.has_body)
+same_refusal text e f some other (inr (inl p)) (inr (inr (inr q))) = absurd (header_or_body text e q.stops.place q.stops.body p q.stops.has_body)
 same_refusal text e f some other (inr (inr (inl p))) (inl q) = absurd (no_header_within text p.far.has_body.head p.far.has_body.rest q.all p.far.has_body.at_header)
 same_refusal text e f some other (inr (inr (inl p))) (inr (inl q)) = absurd (header_or_body text f p.far.place p.far.body q p.far.has_body)
 same_refusal text e f some other (inr (inr (inl p))) (inr (inr (inl q))) = p.is ∙ ap TooFar (one_place_line text p.at q.at p.far.line q.far.line) ∙ sym q.is
-same_refusal text e f some other (inr (inr (inl p))) (inr (inr (inr q))) = absurd (far_or_near text p.at f p.far q)
-same_refusal text e f some other (inr (inr (inr p))) (inl q) = absurd (no_header_within text p.has_body.head p.has_body.rest q.all p.has_body.at_header)
-same_refusal text e f some other (inr (inr (inr p))) (inr (inl q)) = absurd (header_or_body text f p.place p.body q p.has_body)
-same_refusal text e f some other (inr (inr (inr p))) (inr (inr (inl q))) = absurd (far_or_near text q.at e q.far p)
-same_refusal text e f some other (inr (inr (inr p))) (inr (inr (inr q))) = one_body_refusal text e f p q some other
+same_refusal text e f some other (inr (inr (inl p))) (inr (inr (inr q))) = absurd (far_or_near text p.at q.fault p.far q.stops)
+same_refusal text e f some other (inr (inr (inr p))) (inl q) = absurd (no_header_within text p.stops.has_body.head p.stops.has_body.rest q.all p.stops.has_body.at_header)
+same_refusal text e f some other (inr (inr (inr p))) (inr (inl q)) = absurd (header_or_body text f p.stops.place p.stops.body q p.stops.has_body)
+same_refusal text e f some other (inr (inr (inr p))) (inr (inr (inl q))) = absurd (far_or_near text q.at p.fault q.far p.stops)
+same_refusal text e f some other (inr (inr (inr p))) (inr (inr (inr q))) = p.is ∙ ap of_items (one_body_refusal text p.fault q.fault p.stops q.stops p.some q.some) ∙ sym q.is
 
 pub one_text_refusal : (text : List ℕ) (e f : RleError) → TextStopsWith text e → TextStopsWith text f → e ≢ Memory → f ≢ Memory → e ≡ f
 one_text_refusal text e f p q some other = same_refusal text e f some other (sorted text e some p) (sorted text f other q)
 
 -- the reading that a text has stops at the same body
-stops_at : (text : List ℕ) (e : RleError) (place : Cell) (body : List ℕ) → HasBody text place body → BodyStopsWith text e → ItemsStopWith text place body e
+stops_at : (text : List ℕ) (e : BodyError) (place : Cell) (body : List ℕ) → HasBody text place body → BodyStopsWith text e → ItemsStopWith IsWhite text place (blanked body) e
 stops_at text e place body h p =
     let same = one_body text p.place place p.body body p.has_body h in
-    subst (λ (body : List ℕ). ItemsStopWith text place body e) same.1 (subst (λ (place : Cell). ItemsStopWith text place p.body e) same.0 p.stops)
+    subst (λ (body : List ℕ). ItemsStopWith IsWhite text place (blanked body) e) same.1 (subst (λ (place : Cell). ItemsStopWith IsWhite text place (blanked p.body) e) same.0 p.stops)
 
 no_refusal : (text : List ℕ) (e : RleError) → IsFineText text → IsOf text e → e ≢ Memory → ⊥
 no_refusal text e fine (inl p) some = let h = fine.says.has_body in no_header_within text h.head h.rest p.all h.at_header
@@ -209,17 +167,27 @@ no_refusal text e fine (inr (inr (inl p))) some =
     p.far.far (subst IsInReach (sym same.0) (reach_of_none fine.place (fine.fine.near [] fine.items refl)))
 no_refusal text e fine (inr (inr (inr p))) some =
     let says = fine.says in
-    fine_items_are_read text fine.place says.body e some (stops_at text e fine.place says.body says.has_body p) fine.items says.written says.gap says.ignored says.gap_is says.body_is says.items_are fine.fine
+    fine_items_are_read IsWhite white_kind text fine.place (blanked says.body) p.fault p.some (stops_at text p.fault fine.place says.body says.has_body p.stops) fine.items says.written says.gap says.ignored says.gap_is says.body_is says.items_are fine.fine
 
 pub fine_text_or_refused : (text : List ℕ) (e : RleError) → IsFineText text → TextStopsWith text e → e ≢ Memory → ⊥
 fine_text_or_refused text e fine p some = no_refusal text e fine (sorted text e some p) some
+
+limit_of_items : (e : BodyError) → IsForItemLimit e → IsForLimit (of_items e)
+limit_of_items (item.BadItem at) h = h
+limit_of_items (item.BadCount at) h = h
+limit_of_items item.NoEnd h = h
+limit_of_items (item.TooFar at) h = tt
+limit_of_items (item.TooMany count) h = tt
+limit_of_items item.Memory h = tt
 
 said_or_limited : (text : List ℕ) (place : Cell) (items : List Item) (e : RleError) → Says text place items → IsOf text e → e ≢ Memory → IsForLimit e
 said_or_limited text place items e says (inl p) some = let h = says.has_body in absurd (no_header_within text h.head h.rest p.all h.at_header)
 said_or_limited text place items e says (inr (inl p)) some = absurd (header_or_body text e place says.body p says.has_body)
 said_or_limited text place items e says (inr (inr (inl p))) some = subst IsForLimit (sym p.is) tt
 said_or_limited text place items e says (inr (inr (inr p))) some =
-    said_items_are_limited text place says.body e some (stops_at text e place says.body says.has_body p) items says.written says.gap says.ignored says.gap_is says.body_is says.items_are
+    subst IsForLimit (sym p.is)
+    (limit_of_items p.fault
+    (said_items_are_limited IsWhite white_kind text place (blanked says.body) p.fault p.some (stops_at text p.fault place says.body says.has_body p.stops) items says.written says.gap says.ignored says.gap_is says.body_is says.items_are))
 
 limited_if_said : (text : List ℕ) (place : Cell) (items : List Item) (e : RleError) → e ≢ Memory → Says text place items → TextStopsWith text e → IsForLimit e
 limited_if_said text place items e some says p = said_or_limited text place items e says (sorted text e some p) some

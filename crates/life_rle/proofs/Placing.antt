@@ -14,10 +14,10 @@ use Rattle.text_lines.specs.Blanks.{is_blank_byte, words}
 use Rattle.life_rle.specs.Text.{IsPlaceWord, IsPlaceIn}
 use Rattle.rle_items.specs.Reach.{IsNearZero}
 use Rattle.life_rle.specs.Told.{is_comma, IsCommaSplit, TellsSize, TellsNumber, TellsPlace, IsWordSplit, IsOneWord}
-use Rattle.rle_items.specs.Faults.{IsAtCount}
+use Rattle.rle_items.specs.Gaps.{IsAtCount}
 use Rattle.rle_items.specs.SpellingLaws.{one_count}
 use Rattle.rle_items.specs.NumberLaws.{value_more}
-use Rattle.life_rle.proofs.Firsts.{cut_at, none_passes}
+use Rattle.rle_items.specs.Firsts.{cut_at, none_passes}
 use Rattle.life_rle.proofs.OneMeaning.{one_comma, no_comma_within, no_minus}
 
 -- ---- numbers

@@ -1,5 +1,5 @@
 -- What is read from a text that is written is what was written.
-use Rattle.std.proofs.Common.{◌≡◌, ℕ, ◌+◌, ◌<◌, ◌≤◌, ◌^◌, true, not, ◌==◌, List, [], ◌∷◌, ◌++◌, length, refl, sym, ap, ◌∙◌, subst, arith, Option, pos, neg_ℤ, ℤ, ◌≤ℤ◌, eqb}
+use Rattle.std.proofs.Common.{◌≡◌, ℕ, ◌+◌, ◌<◌, ◌≤◌, ◌^◌, true, not, ◌==◌, List, [], ◌∷◌, ◌++◌, length, refl, sym, ap, ◌∙◌, subst, inl, arith, Option, pos, neg_ℤ, ℤ, ◌≤ℤ◌, eqb}
 use Rattle.std.specs.List.{list_all}
 use Rattle.std.proofs.lemmas.Int.{ints}
 use Rattle.std.proofs.lemmas.List.{append_assoc}
@@ -7,6 +7,7 @@ use Rattle.std.proofs.lemmas.Bool.{eq-eqb, and_parts}
 use Rattle.life_plane.specs.Plane.{Plane}
 use Rattle.life_cells.specs.Cells.{Cells, alive, in_order}
 use Rattle.life_cells.specs.Boxes.{IsInRange}
+use Rattle.life_cells.specs.Laws.{alive-in_order, rising-in_order}
 use Rattle.life_cells.specs.declared.cell.Cell.{Cell}
 use Rattle.rle_items.specs.declared.item.Item.{Item}
 use Rattle.rle_items.specs.Items.{AreCells}
@@ -16,9 +17,9 @@ use Rattle.life_rle.specs.Written.{IsRleText, place_line, note_line, header_line
 use Rattle.life_rle.specs.Drawn.{AreSmall, IsSmallFrame}
 use Rattle.life_rle.specs.ByteLaws.{all_append, is_item_byte}
 use Rattle.life_rle.proofs.Heading.{IsNear}
-use Rattle.life_rle.proofs.Seen.{HasNoHash, blanked_same}
+use Rattle.life_rle.proofs.Blanking.{HasNoHash, blanked_same}
 use Rattle.life_rle.specs.SpellingLaws.{folded_spelled, folded_passes}
-use Rattle.life_rle.proofs.WrittenFine.{place_half, size_small, written_fine, written_small}
+use Rattle.life_rle.specs.WrittenFineLaws.{place_half, size_small, written_fine, written_small}
 use Rattle.life_rle.proofs.WrittenLines.{written_body}
 
 -- ---- a text
@@ -63,10 +64,12 @@ written_text_is_fine s note text t n range few =
     let top = at.top in
     let bottom = at.bottom in
     let y : IsNear t.place.y = record { low = omega (arith, ints); high = omega (arith, ints) } in
-    let small = written_small s t.place t.items at t.tidy t.cells range few in
+    let listed_range = subst (λ (p : Plane). IsInRange (2 ^ 39) p) (alive-in_order s) range in
+    let cells = subst (λ (p : Plane). AreCells t.place t.items p) (alive-in_order s) t.cells in
+    let small = written_small (in_order s) (rising-in_order s) t.place t.items at (inl t.tidy) cells listed_range few in
     record {
       place = t.place;
       items = t.items;
       says = subst (λ (bs : List ℕ). Says bs t.place t.items) (sym t.whole) (text_says t.place note t.width t.height t.items (near_half t.place.x at.left at.right) y n size.0 size.1 small);
-      fine = written_fine s t.place t.items at t.tidy t.cells range few;
+      fine = written_fine (in_order s) (rising-in_order s) t.place t.items at (inl t.tidy) cells listed_range few;
     }

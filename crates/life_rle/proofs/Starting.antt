@@ -14,7 +14,7 @@ use Rattle.life_rle.specs.Rests.{BeginsWithLines}
 use Rattle.life_rle.specs.Header.{IsHeader}
 use Rattle.text_lines.specs.Blanks.{IsPassedOver, words}
 use Rattle.life_rle.specs.Text.{gives_place, IsPlaceIn, IsPlace, IsAtHeader, HasBody}
-use Rattle.rle_items.specs.Faults.{BeginsAt}
+use Rattle.rle_items.specs.ItemFaults.{BeginsAt}
 use Rattle.life_rle.specs.TextFaults.{HasPlaceLine, HasFarPlace, StartStopsWith}
 use Rattle.life_rle.specs.Opened.{HasFound, IsOpened, Gives, GivesFar, PlaceIsRefused}
 use Rattle.life_rle.specs.HeaderRead.{HeaderIsRefused}

@@ -7,8 +7,8 @@ pub mod TextFaults
 pub mod Told
 pub mod Opened
 pub mod HeaderRead
-pub mod ItemsRead
 pub mod Written
 pub mod Drawn
 pub mod ByteLaws
 pub mod SpellingLaws
+pub mod WrittenFineLaws

@@ -4,6 +4,7 @@ ghost use Rattle.std.specs.Prelude.{◌≡◌};
 ghost use Rattle.life_rle.specs.declared.error.RleError.TheVariants as text;
 
 use life_cells::NoMemory;
+use rle_items::BodyError;
 use thiserror::Error;
 
 /// Why a text is not read.
@@ -43,5 +44,23 @@ impl From<NoMemory> for RleError {
 
     fn from(_: NoMemory) -> Self {
         RleError::Memory
+    }
+}
+
+/// What stops the reading of the items is told so.
+impl From<BodyError> for RleError {
+    ghost use Rattle.life_rle.specs.TextFaults.{of_items};
+
+    ghost from_gives = { λ b e. e ≡ of_items b };
+
+    fn from(fault: BodyError) -> Self {
+        match fault {
+            BodyError::BadItem { at } => RleError::BadItem { at },
+            BodyError::BadCount { at } => RleError::BadCount { at },
+            BodyError::NoEnd => RleError::NoEnd,
+            BodyError::TooFar { at } => RleError::TooFar { at },
+            BodyError::TooMany { count } => RleError::TooMany { count },
+            BodyError::Memory => RleError::Memory,
+        }
     }
 }

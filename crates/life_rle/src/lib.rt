@@ -2,19 +2,17 @@
 //! x goes right and y goes down; the first item of a text stands at its place, which is (0,0) if none is given.
 #![tactic(auto)]
 
+mod comments;
 mod drawing;
 pub mod error;
-mod gaps;
 mod head;
 mod header;
 pub mod laws;
-mod limits;
 mod lines;
 pub mod pattern;
 mod place;
 pub mod read;
 mod start;
-mod text_item;
 pub mod write;
 pub mod written_laws;
 

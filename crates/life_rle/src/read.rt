@@ -1,45 +1,17 @@
 //! Texts of patterns.
 
-ghost use Rattle.std.specs.Prelude.{◌≡◌, ◌≤◌, ◌^◌, length, IfOk, IfErr};
+ghost use Rattle.std.specs.Prelude.{◌≤◌, ◌^◌, length, IfOk, IfErr};
 ghost use Rattle.life_cells.specs.Cells.{alive, in_order};
 ghost use Rattle.life_cells.specs.Boxes.{IsInRange};
 ghost use Rattle.life_rle.specs.Text.{Means};
-ghost use Rattle.life_rle.specs.Rests.{EndsWith};
-ghost use Rattle.rle_items.specs.Reach.{IsInReach};
-ghost use Rattle.life_rle.specs.Comments.{seen_from, blanked};
-ghost use Rattle.life_rle.specs.ItemsRead.{IsRead};
-ghost use Rattle.life_rle.specs.TextFaults.{IsFineText, ItemsStopWith, TextStopsWith};
+ghost use Rattle.life_rle.specs.TextFaults.{IsFineText, TextStopsWith};
 
+use crate::comments::without_comments;
 use crate::error::RleError;
-use crate::limits::check_from;
 use crate::pattern::Pattern;
-use crate::start::{Start, read_start};
-use crate::text_item::next_text_item;
-use life_cells::{Cell, CellSet};
-use rle_items::cells::add_cells;
-use rle_items::cursor::Cursor;
+use crate::start::read_start;
+use rle_items::{Gaps, read_items};
 use std::alloc::Global;
-
-/// The live cells of the items from a text's start on.
-fn read_items(alloc: Global, text: &[u8], start: Start) -> Result<CellSet, RleError>
-    requires ends { EndsWith text.now start.body.now }
-    requires body { seen_from text.now start.body.now ≡ blanked start.body.now }
-    requires near { IsInReach start.place }
-    ensures cells { IfOk result (λ cells. IsRead start.entry.place start.entry.body.now cells) }
-    ensures refusal { IfErr result (λ e. ItemsStopWith text.now start.entry.place start.entry.body.now e) }
-{
-    let mut cells = Vec::new(alloc);
-    let mut cursor = Cursor::start();
-    let mut rest = start.body;
-    while let Some(front) = next_text_item(text, rest)? {
-        let next = cursor.behind(front.item);
-        check_from(next, start.place, front.at)?;
-        add_cells(&mut cells, cursor.from_place(start.place), front.item)?;
-        cursor = next;
-        rest = front.more;
-    }
-    Ok(CellSet::from_rising(cells))
-}
 
 /// The pattern of a text.
 ///
@@ -61,6 +33,7 @@ pub fn read_rle(alloc: Global, text: &[u8]) -> Result<Pattern, RleError>
     ensures refusal { IfErr result (λ e. TextStopsWith text.now e) }
 {
     let start = read_start(text)?;
-    let cells = read_items(alloc, text, start)?;
+    let body = without_comments(alloc, start.body)?;
+    let (cells, _) = read_items(alloc, Gaps::White, text, start.place, &body)?;
     Ok(Pattern { cells })
 }

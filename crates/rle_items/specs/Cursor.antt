@@ -1,5 +1,5 @@
 -- Where items leave the cursor, and the cells of a row.
-use Rattle.std.specs.Prelude.{◌≡◌, ℕ, zero, suc, ◌<◌, ◌≤◌, ◌^◌, ◌⊎◌, pos, ◌+ℤ◌, List, [], ◌∷◌, ◌++◌, if◌then◌else◌}
+use Rattle.std.specs.Prelude.{◌≡◌, ℕ, zero, suc, ◌<◌, ◌≤◌, ◌^◌, pos, ◌+ℤ◌, List, [], ◌∷◌, ◌++◌, if◌then◌else◌}
 use Rattle.life_cells.specs.Cells.{cell}
 use Rattle.life_cells.specs.declared.cell.Cell.{Cell}
 use Rattle.rle_items.specs.declared.cursor.Cursor.{Cursor}
@@ -7,6 +7,7 @@ use Rattle.rle_items.specs.declared.item.Item.{Item}
 use Rattle.rle_items.specs.declared.error.BodyError.{BodyError}
 use Rattle.rle_items.specs.declared.error.BodyError.TheVariants.{BadItem, BadCount, NoEnd, TooFar, TooMany, Memory}
 use Rattle.rle_items.specs.Items.{rows, columns, live, is_alive}
+use Rattle.rle_items.specs.Reach.{IsInReach}
 
 -- the cursor is where these items leave it
 pub record IsBehind (items : List Item) (cursor : Cursor) : Type 0 where
@@ -14,20 +15,23 @@ pub record IsBehind (items : List Item) (cursor : Cursor) : Type 0 where
   pub column : cursor.column ≡ columns items
   pub live : cursor.live ≡ live items
 
--- the cursor is near, and there are few live cells behind it
-pub record IsWithin (cursor : Cursor) : Type 0 where
-  pub row : cursor.row ≤ 2 ^ 40
-  pub column : cursor.column ≤ 2 ^ 40
+-- where the cursor stands, the first item being at the place
+abbrev pub stands_at : Cell → Cursor → Cell
+stands_at place cursor = cell (place.x +ℤ pos cursor.column) (place.y +ℤ pos cursor.row)
+
+-- the cursor is in reach, and there are few live cells behind it
+pub record IsWithin (place : Cell) (cursor : Cursor) : Type 0 where
+  pub near : IsInReach (stands_at place cursor)
   pub live : cursor.live ≤ 2 ^ 18
 
--- the limit that the cursor behind the item with its tag at this place passes
-abbrev pub Passes : Cursor → ℕ → BodyError → Type 0
-Passes cursor at (TooFar place) = ((2 ^ 40 < cursor.row) ⊎ (2 ^ 40 < cursor.column)) × (place ≡ at)
-Passes cursor at (TooMany count) = (cursor.row ≤ 2 ^ 40) × ((cursor.column ≤ 2 ^ 40) × ((2 ^ 18 < cursor.live) × (count ≡ cursor.live)))
-Passes cursor at (BadItem place) = ⊥
-Passes cursor at (BadCount place) = ⊥
-Passes cursor at NoEnd = ⊥
-Passes cursor at Memory = ⊥
+-- the limit that the cursor behind the item with its tag at this place of the text passes
+abbrev pub Passes : Cell → Cursor → ℕ → BodyError → Type 0
+Passes place cursor at (TooFar there) = (¬ IsInReach (stands_at place cursor)) × (there ≡ at)
+Passes place cursor at (TooMany count) = IsInReach (stands_at place cursor) × ((2 ^ 18 < cursor.live) × (count ≡ cursor.live))
+Passes place cursor at (BadItem there) = ⊥
+Passes place cursor at (BadCount there) = ⊥
+Passes place cursor at NoEnd = ⊥
+Passes place cursor at Memory = ⊥
 
 -- so far from its limits that one more item fits
 pub record HasRoom (cursor : Cursor) : Type 0 where

@@ -1,5 +1,6 @@
 -- The cells of items, drawn one item after the other.
-use Rattle.std.proofs.Common.{◌≡◌, ℕ, zero, suc, Bool, ◌+◌, ◌<◌, ◌⊎◌, true, false, List, [], ◌∷◌, ◌++◌, length, refl, sym, ap, ◌∙◌, subst, inl, inr, arith, pos, ℤ, ◌+ℤ◌, ◌≤ℤ◌, ◌<ℤ◌, if◌then◌else◌}
+use Rattle.std.proofs.Common.{◌≡◌, ℕ, zero, suc, ◌+◌, ◌<◌, ◌⊎◌, true, false, List, [], ◌∷◌, ◌++◌, length, refl, sym, ap, ◌∙◌, subst, inl, inr, arith, pos, ℤ, ◌+ℤ◌, ◌≤ℤ◌, ◌<ℤ◌, if◌then◌else◌}
+use Rattle.std.specs.Cmp.{both_ways}
 use Rattle.std.specs.List.{AllByRecursion}
 use Rattle.std.specs.declared.cmp.Ordering.TheVariants.{Less}
 use Rattle.std.proofs.lemmas.Int.{ints}
@@ -18,17 +19,8 @@ use Rattle.rle_items.specs.Items.{live, is_alive, is_row_end, rows_of, AreCells}
 use Rattle.rle_items.specs.ItemLaws.{live_push, rows_push, columns_push_other, made_push_old, made_push_new, made_push_cases, no_item}
 use Rattle.rle_items.specs.Cursor.{row_cells, item_cells}
 use Rattle.rle_items.specs.Reach.{cursor_behind}
-use Rattle.rle_items.specs.Below.{cases_below}
-
--- ---- what holds of each cell
-
-all_weaker : (P Q : Cell → Type 0) → ((c : Cell) → P c → Q c) → (cs : List Cell) → AllByRecursion P cs → AllByRecursion Q cs
-all_weaker P Q w [] h = tt
-all_weaker P Q w (c ∷ cs) h = (w c h.0, all_weaker P Q w cs h.1)
-
-all_push : (P : Cell → Type 0) (cs : List Cell) (d : Cell) → AllByRecursion P cs → P d → AllByRecursion P (cs ++ (d ∷ []))
-all_push P [] d h p = (p, tt)
-all_push P (c ∷ cs) d h p = (h.0, all_push P cs d h.1 p)
+use Rattle.life_plane.specs.NumberLaws.{cases_below}
+use Rattle.life_plane.specs.ListLaws.{all_push, all_weaker}
 
 -- ---- order
 
@@ -226,10 +218,5 @@ drawn_push place items i cells some h = drawn_by_tag place items i cells some h 
 
 -- ---- items make one set of cells
 
-same_bools : (a b : Bool) → (a ≡ true → b ≡ true) → (b ≡ true → a ≡ true) → a ≡ b
-same_bools true b f g = sym (f refl)
-same_bools false true f g = g refl
-same_bools false false f g = refl
-
 pub same_cells : (place : Cell) (items : List Item) (s t : Plane) → AreCells place items s → AreCells place items t → s ≡ t
-same_cells place items s t p q = same_plane s t (λ x y. same_bools (s x y) (t x y) (λ h. q.all x y (p.made x y h)) (λ h. p.all x y (q.made x y h)))
+same_cells place items s t p q = same_plane s t (λ x y. both_ways (s x y) (t x y) (λ h. q.all x y (p.made x y h)) (λ h. p.all x y (q.made x y h)))

@@ -1,15 +1,17 @@
 -- Laws of items: what one more item at their end changes.
-use Rattle.std.specs.Prelude.{◌≡◌, ℕ, ◌+◌, ◌≤◌, ◌^◌, ◌⊎◌, Bool, true, false, ◌||◌, ℤ, pos, ◌+ℤ◌, ◌≤ℤ◌, ◌<ℤ◌, List, [], ◌∷◌, ◌++◌, sum_by, if◌then◌else◌}
+use Rattle.std.specs.Prelude.{◌≡◌, ℕ, ◌+◌, ◌≤◌, ◌^◌, ◌⊎◌, true, false, ◌||◌, ℤ, pos, ◌+ℤ◌, ◌≤ℤ◌, ◌<ℤ◌, List, [], ◌∷◌, ◌++◌, sum_by, if◌then◌else◌}
 use Rattle.std.proofs.Common.{refl, sym, ap, ◌∙◌, subst, inl, inr, arith}
 use Rattle.std.proofs.lemmas.List.{append_assoc, append-nil}
 use Rattle.std.proofs.lemmas.List.Sums.{sum_by_push}
+use Rattle.std.proofs.lemmas.Int.{ints}
 use Rattle.std.proofs.lemmas.Bool.{or_right}
+use Rattle.std.proofs.Math.Bool.{or-false}
 use Rattle.life_cells.specs.declared.cell.Cell.{Cell}
 use Rattle.rle_items.specs.declared.item.Item.{Item}
 use Rattle.rle_items.specs.declared.item.Tag.TheVariants.{Alive}
 use Rattle.rle_items.specs.Items.{is_row_end, is_alive, rows_of, rows, has_row_end, last_row, columns, live, IsMade}
 use Rattle.rle_items.specs.Spelling.{SpellsItem, Spells}
-use Rattle.rle_items.specs.Faults.{IsNear, AreFine}
+use Rattle.rle_items.specs.Reach.{IsInReach, cursor_behind, AreFineFrom}
 
 -- ---- a list with one more element, split
 
@@ -42,12 +44,8 @@ rows_push items i = sum_by_push rows_of items i
 pub live_push : (items : List Item) (i : Item) → live (items ++ (i ∷ [])) ≡ live items + (if is_alive i.tag then i.count else 0)
 live_push items i = sum_by_push (λ (j : Item). if is_alive j.tag then j.count else 0) items i
 
-or_false : (b : Bool) → (b || false) ≡ b
-or_false true = refl
-or_false false = refl
-
 has_row_end_push : (items : List Item) (i : Item) → has_row_end (items ++ (i ∷ [])) ≡ (has_row_end items || is_row_end i.tag)
-has_row_end_push [] i = or_false (is_row_end i.tag)
+has_row_end_push [] i = or-false (is_row_end i.tag)
 has_row_end_push (j ∷ items) i =
     elim (is_row_end j.tag) as (λ b. (b || has_row_end (items ++ (i ∷ []))) ≡ ((b || has_row_end items) || is_row_end i.tag)) [ true ↦ refl | false ↦ has_row_end_push items i ]
 
@@ -61,7 +59,7 @@ last_row_push_end (j ∷ items) i h =
 last_row_push_other : (items : List Item) (i : Item) → is_row_end i.tag ≡ false → last_row (items ++ (i ∷ [])) ≡ last_row items ++ (i ∷ [])
 last_row_push_other [] i h = rw h refl
 last_row_push_other (j ∷ items) i h =
-    let same : has_row_end (items ++ (i ∷ [])) ≡ has_row_end items = has_row_end_push items i ∙ ap (λ b. has_row_end items || b) h ∙ or_false (has_row_end items) in
+    let same : has_row_end (items ++ (i ∷ [])) ≡ has_row_end items = has_row_end_push items i ∙ ap (λ b. has_row_end items || b) h ∙ or-false (has_row_end items) in
     rw same (elim (is_row_end j.tag || has_row_end items) as
     (λ b. (if b then last_row (items ++ (i ∷ [])) else (j ∷ (items ++ (i ∷ [])))) ≡ (if b then last_row items else (j ∷ items)) ++ (i ∷ []))
     [ true ↦ last_row_push_other items i h | false ↦ refl ])
@@ -79,18 +77,31 @@ none_in_front : (front back : List Item) → [] ≡ front ++ back → front ≡ 
 none_in_front [] back e = refl
 none_in_front (i ∷ front) back e = cc
 
-pub near_none : IsNear []
-near_none = record { row = omega arith; column = omega arith }
+-- where no item goes, the cursor is at the place
+pub reach_of_none : (place : Cell) → IsInReach (cursor_behind place []) → IsInReach place
+reach_of_none place h = same_reach (cursor_behind place []) place (omega (arith, ints)) (omega (arith, ints)) h
+  where
+    same_reach : (c d : Cell) → c.x ≡ d.x → c.y ≡ d.y → IsInReach c → IsInReach d
+    same_reach c d x y h = let same : c ≡ d = (λ i. record { y = y i; x = x i }) in subst IsInReach same h
 
-pub fine_none : AreFine []
-fine_none = record {
-  near = λ front back e. subst IsNear (sym (none_in_front front back e)) near_none;
+pub reach_at_place : (place : Cell) → IsInReach place → IsInReach (cursor_behind place [])
+reach_at_place place h = subst IsInReach (λ i. record { y = y i; x = x i }) h
+  where
+    x : place.x ≡ place.x +ℤ pos (columns [])
+    x = omega (arith, ints)
+
+    y : place.y ≡ place.y +ℤ pos (rows [])
+    y = omega (arith, ints)
+
+pub fine_none : (place : Cell) → IsInReach place → AreFineFrom place []
+fine_none place h = record {
+  near = λ front back e. subst (λ (is : List Item). IsInReach (cursor_behind place is)) (sym (none_in_front front back e)) (reach_at_place place h);
   few = λ front back e. subst (λ (is : List Item). live is ≤ 2 ^ 18) (sym (none_in_front front back e)) (omega arith);
 }
 
-pub fine_push : (items : List Item) (i : Item) → AreFine items → IsNear (items ++ (i ∷ [])) → live (items ++ (i ∷ [])) ≤ 2 ^ 18 → AreFine (items ++ (i ∷ []))
-fine_push items i fine near few = record {
-  near = λ front back e. elim (split_push items i front back e) [ inl h ↦ subst IsNear (sym h.1) near | inr h ↦ fine.near front h.rest h.split ];
+pub fine_push : (place : Cell) (items : List Item) (i : Item) → AreFineFrom place items → IsInReach (cursor_behind place (items ++ (i ∷ []))) → live (items ++ (i ∷ [])) ≤ 2 ^ 18 → AreFineFrom place (items ++ (i ∷ []))
+fine_push place items i fine near few = record {
+  near = λ front back e. elim (split_push items i front back e) [ inl h ↦ subst (λ (is : List Item). IsInReach (cursor_behind place is)) (sym h.1) near | inr h ↦ fine.near front h.rest h.split ];
   few = λ front back e. elim (split_push items i front back e) [ inl h ↦ subst (λ (is : List Item). live is ≤ 2 ^ 18) (sym h.1) few | inr h ↦ fine.few front h.rest h.split ];
 }
 

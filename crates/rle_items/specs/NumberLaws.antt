@@ -11,7 +11,7 @@ use Rattle.std.proofs.lemmas.List.Quantifiers.{position-Some}
 use Rattle.std.proofs.lemmas.Bool.{and_from, not-true, not-false, cases_lt, lt-ltb}
 use Rattle.std.proofs.lemmas.Bool.Decides.{nat_tests}
 use Rattle.rle_items.specs.Numbers.{value}
-use Rattle.rle_items.specs.Faults.{IsAtCount}
+use Rattle.rle_items.specs.Gaps.{IsAtCount}
 
 digits_model : IsNumeralModel (λ ds. all_ascii_digits ds ≡ true) value
 digits_model = numerals_by_value _ tells_all_ascii_digits

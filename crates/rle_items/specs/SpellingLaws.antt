@@ -7,7 +7,9 @@ use Rattle.std.proofs.lemmas.Bool.{and_parts, leb-true, cases_Bool, ne_eqb, eqb-
 use Rattle.rle_items.specs.declared.item.Item.{Item}
 use Rattle.rle_items.specs.declared.item.Tag.{Tag}
 use Rattle.rle_items.specs.Spelling.{SpellsItem, Spells, IsNone, IsWhite, is_white, IsCount, tag_of}
-use Rattle.rle_items.specs.Faults.{IsAtCount}
+use Rattle.rle_items.specs.Gaps.{gap_of, IsAtCount}
+use Rattle.rle_items.specs.declared.gaps.Gaps.{Gaps}
+use Rattle.rle_items.specs.declared.gaps.Gaps.TheVariants as gaps
 
 -- ---- digits
 
@@ -109,6 +111,8 @@ same_gap (b ∷ gap) (c ∷ other) m n p q f g e = let more : gap ++ m ≡ other
 pub record IsGapKind (Gap : List ℕ → Type 0) : Type 0 where
   pub none : Gap []
   pub join : (gap other : List ℕ) → Gap gap → Gap other → Gap (gap ++ other)
+  pub head : (b : ℕ) (gap : List ℕ) → Gap (b ∷ gap) → Gap (b ∷ [])
+  pub tail : (b : ℕ) (gap : List ℕ) → Gap (b ∷ gap) → Gap gap
   pub white : (gap : List ℕ) → Gap gap → IsWhite gap
 
 pub join_white : (gap other : List ℕ) → IsWhite gap → IsWhite other → IsWhite (gap ++ other)
@@ -116,14 +120,24 @@ join_white [] other p q = q
 join_white (b ∷ gap) other p q = (p.0, join_white gap other p.1 q)
 
 pub white_kind : IsGapKind IsWhite
-white_kind = record { none = tt; join = join_white; white = λ gap h. h }
+white_kind = record { none = tt; join = join_white; head = λ b gap h. (h.0, tt); tail = λ b gap h. h.1; white = λ gap h. h }
 
 pub none_kind : IsGapKind IsNone
 none_kind = record {
   none = refl;
   join = λ gap other p q. ap (λ (bs : List ℕ). bs ++ other) p ∙ q;
+  head = λ b gap h. absurd cc;
+  tail = λ b gap h. absurd cc;
   white = λ gap h. subst IsWhite (sym h) tt;
 }
+
+pub kind_of : (g : Gaps) → IsGapKind (gap_of g)
+kind_of gaps.None = none_kind
+kind_of gaps.White = white_kind
+
+-- a byte that is no white space is no gap
+pub no_gap : (Gap : List ℕ → Type 0) → IsGapKind Gap → (more : List ℕ) → BeginsDark more → (b : ℕ) (bs : List ℕ) → more ≡ b ∷ bs → ¬ Gap (b ∷ [])
+no_gap Gap kind more dark b bs e h = let white = (kind.white (b ∷ []) h).0 in let none = dark b bs e in cc
 
 module _ (Gap : List ℕ → Type 0) where
   -- the item at the front of the rest, with such a gap before its tag
@@ -290,4 +304,13 @@ module _ (Gap : List ℕ → Type 0) (kind : IsGapKind Gap) where
       elim (one_goes_on items others front before (gap ++ (33 ∷ ignored)) (other ++ (33 ∷ last)) p q e) [
         | inl h ↦ (end_stops items others (gap ++ (33 ∷ ignored)) gap ignored (other ++ (33 ∷ last)) v refl h).items_are
         | inr h ↦ sym (end_stops others items (other ++ (33 ∷ last)) other last (gap ++ (33 ∷ ignored)) w refl h).items_are
+      ]
+
+  -- and both readings end at one place
+  pub one_end : (items others : List Item) (front before gap other ignored last : List ℕ) → Spells Gap front items → Spells Gap before others → IsWhite gap → IsWhite other
+      → front ++ (gap ++ (33 ∷ ignored)) ≡ before ++ (other ++ (33 ∷ last)) → gap ++ (33 ∷ ignored) ≡ other ++ (33 ∷ last)
+  one_end items others front before gap other ignored last p q v w e =
+      elim (one_goes_on items others front before (gap ++ (33 ∷ ignored)) (other ++ (33 ∷ last)) p q e) [
+        | inl h ↦ (end_stops items others (gap ++ (33 ∷ ignored)) gap ignored (other ++ (33 ∷ last)) v refl h).rest_is
+        | inr h ↦ sym (end_stops others items (other ++ (33 ∷ last)) other last (gap ++ (33 ∷ ignored)) w refl h).rest_is
       ]

@@ -7,10 +7,10 @@ ghost use Rattle.rle_items.specs.Words.{WordMeans};
 ghost use Rattle.rle_items.specs.Words.{IsNotNegative};
 ghost use Rattle.rle_items.specs.Faults.{IsFineWord, StopsWith};
 
-use crate::cells::add_cells;
-use crate::cursor::Cursor;
 use crate::error::BodyError;
-use crate::front::next_item;
+use crate::front::offset;
+use crate::gaps::Gaps;
+use crate::reading::read_items;
 use life_cells::{Cell, CellSet};
 use std::alloc::Global;
 
@@ -29,16 +29,10 @@ pub fn read_body(alloc: Global, word: &[u8]) -> Result<CellSet, BodyError>
     ensures few { IfOk result (λ cells. length (in_order cells) ≤ 2 ^ 18) }
     ensures refusal { IfErr result (λ e. StopsWith word.now e) }
 {
-    let origin = Cell::new(0, 0);
-    let mut cells = Vec::new(alloc);
-    let mut cursor = Cursor::start();
-    let mut rest = word;
-    while let Some(front) = next_item(word, rest)? {
-        let next = cursor.behind(front.item);
-        next.check(front.at)?;
-        add_cells(&mut cells, cursor.from_place(origin), front.item)?;
-        cursor = next;
-        rest = front.more;
+    let (cells, end) = read_items(alloc, Gaps::None, word, Cell::new(0, 0), word)?;
+    if end.len() > 1 {
+        let at = offset(word, end) + 1;
+        return Err(BodyError::BadItem { at });
     }
-    Ok(CellSet::from_rising(cells))
+    Ok(cells)
 }

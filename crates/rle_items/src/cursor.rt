@@ -2,7 +2,7 @@
 
 use crate::error::BodyError;
 use crate::item::{Item, Tag};
-use crate::reach::FARTHEST;
+use crate::reach::is_in_reach;
 use life_cells::Cell;
 
 /// The most live cells that are read.
@@ -28,8 +28,7 @@ impl Cursor {
 
     /// The cursor before the first item.
     pub fn start() -> Cursor
-        ensures behind { IsBehind [] result }
-        ensures within { IsWithin result }
+        ensures { IsBehind [] result }
     {
         Cursor::default()
     }
@@ -58,16 +57,19 @@ impl Cursor {
         }
     }
 
-    /// Refuses a cursor that is too far, and one with too many live cells so far. The last item's tag is at this place.
+    /// Refuses a cursor that is out of reach, and one with too many live cells so far. The first item is at this place, and the
+    /// last item's tag is at this byte.
     ///
     /// # Errors
     ///
-    /// `TooFar` with that place, and `TooMany` with the number of live cells where the cursor is near.
-    pub fn check(self, at: u64) -> Result<(), BodyError>
-        ensures ok { OnOk result (IsWithin self) }
-        ensures err { IfErr result (λ e. Passes self at e) }
+    /// `TooFar` with that byte, and `TooMany` with the number of live cells where the cursor is in reach.
+    pub fn check(self, place: Cell, at: u64) -> Result<(), BodyError>
+        requires place { IsInReach place }
+        requires room { HasMoved self }
+        ensures ok { OnOk result (IsWithin place self) }
+        ensures err { IfErr result (λ e. Passes place self at e) }
     {
-        if self.row > FARTHEST || self.column > FARTHEST {
+        if !is_in_reach(self.from_place(place)) {
             return Err(BodyError::TooFar { at });
         }
         if self.live > MOST_LIVE {

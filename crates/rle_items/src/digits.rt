@@ -6,7 +6,7 @@ ghost use Rattle.std.specs.List.{position};
 ghost use Rattle.std.specs.Str.{all_ascii_digits};
 ghost use Rattle.rle_items.specs.Numbers.{value};
 ghost use Rattle.rle_items.specs.Spelling.{IsCount};
-ghost use Rattle.rle_items.specs.Faults.{IsAtCount};
+ghost use Rattle.rle_items.specs.Gaps.{IsAtCount};
 
 /// The most digits that a number has.
 pub const MOST_DIGITS: usize = 18;

@@ -1,4 +1,4 @@
-//! The refusals of a body word. Bytes count from 0.
+//! The refusals of a body: of a body word, and of the items of a text. Bytes count from 0.
 
 ghost use Rattle.std.specs.Prelude.{◌≡◌};
 ghost use Rattle.rle_items.specs.declared.error.BodyError.TheVariants as body;
@@ -6,16 +6,16 @@ ghost use Rattle.rle_items.specs.declared.error.BodyError.TheVariants as body;
 use life_cells::NoMemory;
 use thiserror::Error;
 
-/// Why a body word is not read.
+/// Why a body is not read.
 #[derive(Clone, Copy, Debug, PartialEq, Eq, Error)]
 pub enum BodyError {
-    /// A byte is no part of an item, or follows the `!`.
+    /// A byte is no part of an item, or begins a count that follows another; in a body word, too, where it follows the `!`.
     #[error("bad item at byte {at}")]
     BadItem { at: u64 },
     /// A count is zero, too long, or stands before the `!`.
     #[error("bad count at byte {at}")]
     BadCount { at: u64 },
-    /// The word ends before a `!`.
+    /// The body ends before a `!`.
     #[error("no end")]
     NoEnd,
     /// A coordinate passes 2^40.

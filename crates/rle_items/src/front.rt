@@ -1,12 +1,16 @@
-//! What stands at the front of a rest of a body word.
+//! What stands at the front of a rest of items.
 
-ghost use Rattle.std.specs.Prelude.{◌≡◌, ℕ, ◌<◌, ◌≤◌, ◌^◌, [], ◌∷◌, List, length, IfOk, IfErr, IfSome, IfNone};
+ghost use Rattle.std.specs.Prelude.{◌≡◌, ℕ, ◌<◌, ◌≤◌, ◌^◌, List, length, IfOk, IfErr, IfSome, IfNone};
+ghost use Rattle.life_cells.specs.declared.cell.Cell.{Cell};
 ghost use Rattle.rle_items.specs.declared.item.Item.{Item};
 ghost use Rattle.rle_items.specs.Spelling.{tag_of};
-ghost use Rattle.rle_items.specs.Faults.{IsNext, BeginsAt, IsFault};
+ghost use Rattle.rle_items.specs.Gaps.{gap_of, IsAtTag, IsAtEnd};
+ghost use Rattle.rle_items.specs.ItemFaults.{BeginsAt, IsFault};
+ghost use Rattle.rle_items.specs.Read.{IsItemAt};
 
 use crate::digits::{count_of, split_digits};
 use crate::error::BodyError;
+use crate::gaps::Gaps;
 use crate::item::{Item, Tag};
 
 /// An item that was read.
@@ -14,10 +18,21 @@ use crate::item::{Item, Tag};
 pub struct Front<'a> {
     /// The item.
     pub item: Item,
-    /// The place of its tag in the word.
+    /// The place of its tag in the text.
     pub at: u64,
     /// What follows its tag.
     pub more: &'a [u8],
+}
+
+/// Where a tag should stand.
+#[derive(Clone, Copy)]
+pub struct TagPlace<'a> {
+    /// The rest from the digits of the count on.
+    pub from: &'a [u8],
+    /// These digits, or none.
+    pub digits: &'a [u8],
+    /// The rest from the tag on.
+    pub at_tag: &'a [u8],
 }
 
 /// The tag that a byte spells.
@@ -32,67 +47,64 @@ pub fn read_tag(byte: u8) -> Option<Tag>
     }
 }
 
-/// The place in a word, in bytes, at which a rest of it begins.
-pub fn offset(word: &[u8], rest: &[u8]) -> u64
-    requires { length rest.now ≤ length word.now }
-    ensures { BeginsAt word.now rest.now result }
+/// The place in a text, in bytes, at which a rest of it begins.
+pub fn offset(text: &[u8], rest: &[u8]) -> u64
+    requires { length rest.now ≤ length text.now }
+    ensures { BeginsAt text.now rest.now result }
 {
-    (word.len() - rest.len()) as u64
+    (text.len() - rest.len()) as u64
 }
 
-/// Whether the word ends behind this `!`.
-fn read_end(word: &[u8], rest: &[u8], after: &[u8]) -> Result<(), BodyError>
-    requires end { rest.now ≡ 33 ∷ after.now }
-    requires within { length rest.now ≤ length word.now }
-    ensures ok { IfOk result (λ _. rest.now ≡ 33 ∷ []) }
-    ensures err { IfErr result (λ e. (items : List Item) → IsFault word.now rest.now items e) }
+/// The digits behind a gap, and what stands behind the next gap.
+fn tag_place(gaps: Gaps, rest: &[u8]) -> TagPlace<'_>
+    ensures place { IsAtTag (gap_of gaps) rest.now result.from.now result.digits.now result.at_tag.now }
+    ensures from { length result.from.now ≤ length rest.now }
+    ensures at_tag { length result.at_tag.now ≤ length rest.now }
 {
-    if after.is_empty() {
-        Ok(())
-    } else {
-        Err(BodyError::BadItem {
-            at: offset(word, after),
-        })
+    let from = gaps.skip(rest);
+    let (digits, more) = split_digits(from);
+    TagPlace {
+        from,
+        digits,
+        at_tag: gaps.skip(more),
     }
 }
 
-/// The item at the front of a rest of a word. None at the `!` that ends the word.
+/// The item at the front of a rest of a text. None at the `!`.
 ///
 /// # Errors
 ///
 /// `BadCount`, `NoEnd` or `BadItem`, whichever stands at the rest's front.
-pub fn next_item<'a>(word: &[u8], rest: &'a [u8]) -> Result<Option<Front<'a>>, BodyError>
-    requires { length rest.now ≤ length word.now }
-    ensures item { IfOk result (λ o. IfSome o (λ f. (tag : ℕ) × (IsNext rest.now f.item tag f.more.now × BeginsAt word.now (tag ∷ f.more.now) f.at))) }
+pub fn next_item<'a>(
+    gaps: Gaps,
+    text: &[u8],
+    rest: &'a [u8],
+) -> Result<Option<Front<'a>>, BodyError>
+    requires { length rest.now ≤ length text.now }
+    ensures item { IfOk result (λ o. IfSome o (λ f. IsItemAt (gap_of gaps) text.now rest.now f.item f.at f.more.now)) }
     ensures small { IfOk result (λ o. IfSome o (λ f. f.item.count < 10 ^ 18)) }
-    ensures end { IfOk result (λ o. IfNone o (rest.now ≡ 33 ∷ [])) }
-    ensures err { IfErr result (λ e. (items : List Item) → IsFault word.now rest.now items e) }
+    ensures end { IfOk result (λ o. IfNone o (IsAtEnd (gap_of gaps) rest.now)) }
+    ensures err { IfErr result (λ e. (place : Cell) (items : List Item) → IsFault (gap_of gaps) text.now place rest.now items e) }
 {
-    let (digits, more) = split_digits(rest);
-    let Some(count) = count_of(digits) else {
-        return Err(BodyError::BadCount {
-            at: offset(word, rest),
-        });
+    let place = tag_place(gaps, rest);
+    let Some(count) = count_of(place.digits) else {
+        let at = offset(text, place.from);
+        return Err(BodyError::BadCount { at });
     };
-    let Some((byte, after)) = more.split_first() else {
+    let Some((byte, more)) = place.at_tag.split_first() else {
         return Err(BodyError::NoEnd);
     };
-    if *byte == b'!' {
-        if !digits.is_empty() {
-            return Err(BodyError::BadCount {
-                at: offset(word, rest),
-            });
-        }
-        read_end(word, rest, after)?;
-        return Ok(None);
-    }
-    let at = offset(word, more);
+    let at = offset(text, place.at_tag);
     match read_tag(*byte) {
-        Some(tag) => Ok(Some(Front {
-            item: Item { count, tag },
-            at,
-            more: after,
-        })),
-        None => Err(BodyError::BadItem { at }),
+        Some(tag) => {
+            let item = Item { count, tag };
+            Ok(Some(Front { item, at, more }))
+        }
+        None if *byte != b'!' => Err(BodyError::BadItem { at }),
+        None if place.digits.is_empty() => Ok(None),
+        None => {
+            let at = offset(text, place.from);
+            Err(BodyError::BadCount { at })
+        }
     }
 }

@@ -5,7 +5,8 @@ ghost use Rattle.std.specs.Prelude.{◌≡◌, ◌≢◌, ℕ, List};
 ghost use Rattle.life_plane.specs.Plane.{Plane};
 ghost use Rattle.rle_items.specs.declared.error.BodyError.{BodyError};
 ghost use Rattle.rle_items.specs.Words.{WordMeans};
-ghost use Rattle.rle_items.specs.Faults.{IsFineWord, IsForLimit, StopsWith};
+ghost use Rattle.rle_items.specs.Faults.{IsFineWord, StopsWith};
+ghost use Rattle.rle_items.specs.ItemFaults.{IsForLimit};
 
 use crate::error::BodyError;
 

@@ -1,6 +1,6 @@
 use Rattle.std.proofs.Common.{sym, ◌+◌}
 use Rattle.text_lines.specs.Blanks.{is_blank_byte}
-use Rattle.life_rle.proofs.Firsts.{none_passes}
+use Rattle.rle_items.specs.Firsts.{none_passes}
 use Rattle.life_rle.proofs.Placing.{word_at, slice_rest}
 use Rattle.life_rle.proofs.place.split_word.Goals as goal
 

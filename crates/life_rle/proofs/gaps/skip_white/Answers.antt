@@ -1,9 +1,0 @@
-use Rattle.std.proofs.Common.{sym, refl}
-use Rattle.life_rle.proofs.Skipped.{past_white, past_all_white}
-use Rattle.life_rle.proofs.gaps.skip_white.Goals as goal
-
-pub returns-in-Some : goal.returns-in-Some
-returns-in-Some c = rw c.split_at.ensures.back (past_white c.args.rest.now c.in-Some.many (sym c.in-Some.ensures))
-
-pub returns-in-None : goal.returns-in-None
-returns-in-None c = rw c.split_at-in-None.ensures.back (past_all_white c.args.rest.now _ refl (sym c.in-None.ensures))
