@@ -8,7 +8,8 @@ use Rattle.life_plane.specs.Plane.{Plane}
 use Rattle.life_cells.specs.declared.cell.Cell.{Cell}
 use Rattle.rle_items.specs.declared.error.BodyError.TheVariants as refusal
 use Rattle.rle_items.specs.declared.item.Tag.{Tag}
-use Rattle.rle_items.specs.Spelling.{tag_of}
+use Rattle.rle_items.specs.Spelling.{IsNone, tag_of}
+use Rattle.rle_items.specs.SpellingLaws.{tag_behind}
 use Rattle.rle_items.specs.Words.{WordMeans}
 use Rattle.rle_items.specs.Faults.{StopsWith}
 use Rattle.book_lines.specs.declared.statement.Body.{Body}
@@ -172,9 +173,10 @@ last_is (x ∷ xs) tag more e =
 pub many_no_colon : (word : List ℕ) (count : ℕ) → StopsWith word (refusal.TooMany count) → word ≢ codes ":"
 many_no_colon word count h e =
     let next = h.fault.next in
-    let whole : (h.read.front ++ next.digits) ++ (h.fault.tag ∷ h.fault.more) ≡ codes ":" =
-    append_assoc h.read.front next.digits (h.fault.tag ∷ h.fault.more) ∙ ap (λ (t : List ℕ). h.read.front ++ t) (sym next.at.split) ∙ sym h.read.split ∙ e in
-    let tag = last_is (h.read.front ++ next.digits) h.fault.tag h.fault.more whole in
+    let front : List ℕ = (next.at.past.gap ++ next.digits) ++ next.at.next.gap in
+    let whole : (h.read.front ++ front) ++ (h.fault.tag ∷ h.fault.more) ≡ codes ":" =
+    append_assoc h.read.front front (h.fault.tag ∷ h.fault.more) ∙ ap (λ (t : List ℕ). h.read.front ++ t) (sym (tag_behind IsNone h.rest h.fault.item h.fault.tag h.fault.more next)) ∙ sym h.read.split ∙ e in
+    let tag = last_is (h.read.front ++ front) h.fault.tag h.fault.more whole in
     no_tag h.fault.item.tag (subst (λ (c : ℕ). tag_of c ≡ Some h.fault.item.tag) tag next.tag_is)
   where
     no_tag : (t : Tag) → tag_of 58 ≡ Some t → ⊥

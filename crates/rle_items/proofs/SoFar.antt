@@ -15,7 +15,7 @@ use Rattle.rle_items.specs.declared.error.BodyError.TheVariants.{BadItem, BadCou
 use Rattle.rle_items.specs.Items.{rows_of, live, is_row_end, AreCells}
 use Rattle.rle_items.specs.ItemLaws.{rows_push, columns_push_end, columns_push_other, spells_push, reach_at_place, fine_none, fine_push}
 use Rattle.rle_items.specs.Spelling.{SpellsItem}
-use Rattle.rle_items.specs.SpellingLaws.{count_some}
+use Rattle.rle_items.specs.SpellingLaws.{count_some, tag_behind}
 use Rattle.rle_items.specs.Reach.{IsInReach, cursor_behind}
 use Rattle.rle_items.specs.Gaps.{IsAtEnd}
 use Rattle.rle_items.specs.ItemFaults.{BeginsAt, IsReadTo, IsFault, ItemsStopWith}
@@ -66,10 +66,6 @@ row_fits place items i c d first t b a w is =
 
 -- ---- the items so far
 
-regroup : (a b c : List ℕ) (t : ℕ) (r : List ℕ) → a ++ (b ++ (c ++ (t ∷ r))) ≡ (((a ++ b) ++ c) ++ (t ∷ [])) ++ r
-regroup a b c t r =
-    sym (append_assoc a b (c ++ (t ∷ r))) ∙ sym (append_assoc (a ++ b) c (t ∷ r)) ∙ sym (append_assoc ((a ++ b) ++ c) (t ∷ []) r)
-
 module _ (Gap : List ℕ → Type 0) (text : List ℕ) (place : Cell) (body : List ℕ) where
   -- the body is read up to the rest; the cursor is behind the items, and the cells are theirs
   pub record IsSoFar (rest : List ℕ) (cursor : Cursor) (cells : List Cell) : Type 0 where
@@ -94,9 +90,7 @@ module _ (Gap : List ℕ → Type 0) (text : List ℕ) (place : Cell) (body : Li
       (so_far : IsSoFar rest c cells) (next : IsItemAt Gap text rest item at more)
       (moves : (items : List Item) → IsBehind items c → IsBehind (items ++ (item ∷ [])) d) where
     rest_is : rest ≡ (((next.next.at.past.gap ++ next.next.digits) ++ next.next.at.next.gap) ++ (next.tag ∷ [])) ++ more
-    rest_is =
-        next.next.at.past.split ∙ ap (λ (bs : List ℕ). next.next.at.past.gap ++ bs) (next.next.at.count.split ∙ ap (λ (bs : List ℕ). next.next.digits ++ bs) next.next.at.next.split)
-        ∙ regroup next.next.at.past.gap next.next.digits next.next.at.next.gap next.tag more
+    rest_is = tag_behind Gap rest item next.tag more next.next ∙ sym (append_assoc ((next.next.at.past.gap ++ next.next.digits) ++ next.next.at.next.gap) (next.tag ∷ []) more)
 
     spelled : SpellsItem Gap (((next.next.at.past.gap ++ next.next.digits) ++ next.next.at.next.gap) ++ (next.tag ∷ [])) item
     spelled = record {

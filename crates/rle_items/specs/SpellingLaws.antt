@@ -7,7 +7,7 @@ use Rattle.std.proofs.lemmas.Bool.{and_parts, leb-true, cases_Bool, ne_eqb, eqb-
 use Rattle.rle_items.specs.declared.item.Item.{Item}
 use Rattle.rle_items.specs.declared.item.Tag.{Tag}
 use Rattle.rle_items.specs.Spelling.{SpellsItem, Spells, IsNone, IsWhite, is_white, IsCount, tag_of}
-use Rattle.rle_items.specs.Gaps.{gap_of, IsAtCount}
+use Rattle.rle_items.specs.Gaps.{gap_of, IsAtCount, IsNextItem}
 use Rattle.rle_items.specs.declared.gaps.Gaps.{Gaps}
 use Rattle.rle_items.specs.declared.gaps.Gaps.TheVariants as gaps
 
@@ -138,6 +138,12 @@ kind_of gaps.White = white_kind
 -- a byte that is no white space is no gap
 pub no_gap : (Gap : List ℕ → Type 0) → IsGapKind Gap → (more : List ℕ) → BeginsDark more → (b : ℕ) (bs : List ℕ) → more ≡ b ∷ bs → ¬ Gap (b ∷ [])
 no_gap Gap kind more dark b bs e h = let white = (kind.white (b ∷ []) h).0 in let none = dark b bs e in cc
+
+-- the tag of the next item stands behind its gaps and its digits
+pub tag_behind : (Gap : List ℕ → Type 0) (rest : List ℕ) (item : Item) (tag : ℕ) (more : List ℕ) (n : IsNextItem Gap rest item tag more) → rest ≡ ((n.at.past.gap ++ n.digits) ++ n.at.next.gap) ++ (tag ∷ more)
+tag_behind Gap rest item tag more n =
+    n.at.past.split ∙ ap (λ (bs : List ℕ). n.at.past.gap ++ bs) (n.at.count.split ∙ ap (λ (bs : List ℕ). n.digits ++ bs) n.at.next.split)
+    ∙ sym (append_assoc n.at.past.gap n.digits (n.at.next.gap ++ (tag ∷ more))) ∙ sym (append_assoc (n.at.past.gap ++ n.digits) n.at.next.gap (tag ∷ more))
 
 module _ (Gap : List ℕ → Type 0) where
   -- the item at the front of the rest, with such a gap before its tag
