@@ -4,7 +4,7 @@ use Rattle.std.specs.List.{AllByRecursion, AllZip}
 use Rattle.std.specs.Fmt.{decimal, signed_decimal}
 use Rattle.std.proofs.lemmas.Int.{ints}
 use Rattle.rle_items.specs.Numbers.{IsNatural}
-use Rattle.life_rle.specs.ByteLaws.{decimal_natural, decimal_passes}
+use Rattle.life_rle.specs.ByteLaws.{decimal_natural, decimal_passes, small_fits}
 use Rattle.book_lines.specs.Values.{IsNumber, IsNumberAt, AreNumbersAt}
 use Rattle.book_lines.specs.Values.Level.{Whole}
 use Rattle.book_write.proofs.Visible.{is_visible, digit_visible, IsWord}
@@ -18,11 +18,8 @@ pub short_from : (z : ℤ) → neg_ℤ (pos (2 ^ 40)) ≤ℤ z → z ≤ℤ pos 
 short_from (pos n) low high = omega (arith, ints)
 short_from (negsuc n) low high = omega (arith, ints)
 
-fits : (n : ℕ) → n < 10 ^ 18 → n < 2 ^ 64
-fits n h = omega arith
-
 decimal_word : (n : ℕ) → n < 10 ^ 18 → IsWord (decimal n)
-decimal_word n h = record { some = (decimal_natural n h).digits.some; bytes = decimal_passes is_visible digit_visible n (fits n h) }
+decimal_word n h = record { some = (decimal_natural n h).digits.some; bytes = decimal_passes is_visible digit_visible n (small_fits n h) }
 
 pub number_word : (z : ℤ) → IsShort z → IsWord (signed_decimal z)
 number_word (pos n) h = decimal_word n h

@@ -17,7 +17,7 @@ use Rattle.rle_items.specs.declared.item.Tag.TheVariants.{Dead, Alive, RowEnd}
 use Rattle.life_rle.specs.Written.{IsFrame, IsTidy, IsTidyAfter}
 use Rattle.life_rle.specs.Drawn.{IsBehind, StartsAfter, IsTidyFrom}
 use Rattle.life_cells.specs.PlaceLaws.{listed_here}
-use Rattle.life_rle.proofs.Growing.{either}
+use Rattle.std.proofs.lemmas.Bool.{or_cases}
 
 -- a box with its sides in order and in the range
 pub record IsNearBox (box : Bounds) : Type 0 where
@@ -56,7 +56,7 @@ rows_below c (d ∷ ds) h = (elim (comes_before c d h.0) [ inl below ↦ omega (
 pub each_of : (P : Cell → Type 0) (cs : List Cell) → AllByRecursion P cs → (x y : ℤ) → listed cs x y ≡ true → P (cell x y)
 each_of P [] a x y h = cc
 each_of P (c ∷ cs) a x y h =
-    elim (either (same_cell (cell x y) c) (listed cs x y) h) [
+    elim (or_cases (same_cell (cell x y) c) (listed cs x y) h) [
       | inl here ↦ subst P (sym (same_cell_is (cell x y) c here)) a.0
       | inr there ↦ each_of P cs a.1 x y there
     ]

@@ -1,5 +1,5 @@
 -- How the items of rising cells grow, cell by cell.
-use Rattle.std.specs.Prelude.{◌≡◌, ◌≢◌, ℕ, ◌+◌, ◌<◌, ◌^◌, Bool, true, false, ◌||◌, ◌&&◌, ◌⊎◌, ℤ, pos, neg_ℤ, ◌+ℤ◌, ◌≤ℤ◌, ◌<ℤ◌, List, [], ◌∷◌, ◌++◌}
+use Rattle.std.specs.Prelude.{◌≡◌, ◌≢◌, ℕ, ◌+◌, ◌<◌, ◌^◌, true, false, ◌||◌, ◌&&◌, ◌⊎◌, ℤ, pos, neg_ℤ, ◌+ℤ◌, ◌≤ℤ◌, ◌<ℤ◌, List, [], ◌∷◌, ◌++◌}
 use Rattle.std.specs.List.{AllByRecursion}
 use Rattle.std.specs.declared.cmp.Ordering.TheVariants.{Less}
 use Rattle.std.specs.Ordering.{int_eq}
@@ -18,53 +18,35 @@ use Rattle.rle_items.specs.declared.item.Item.{Item}
 use Rattle.rle_items.specs.declared.item.Tag.{Tag}
 use Rattle.rle_items.specs.declared.item.Tag.TheVariants.{Dead, Alive, RowEnd}
 use Rattle.rle_items.specs.Items.{rows, columns, AreCells}
+use Rattle.std.proofs.lemmas.Bool.{and_parts, or_cases, or_left, or_right}
 use Rattle.life_rle.specs.Written.{may_follow, IsTidyAfter}
 use Rattle.life_rle.specs.Drawn.{some_of, IsBehind, IsAhead, IsNext, IsGapInRow, IsGapDown, IsGap, HasGap, StartsAfter, IsTidyFrom, AreSmall}
 use Rattle.life_plane.specs.NumberLaws.{cases_below}
 use Rattle.life_rle.proofs.Made.{IsRun, none_made, made_front, made_some_live, made_some_run, cells_same, rows-some_longer, rows-some_ended, columns-some_longer, columns-some_ended}
 
-both_first : (a b : Bool) → (a && b) ≡ true → a ≡ true
-both_first true b h = refl
-both_first false b h = h
-
-both_second : (a b : Bool) → (a && b) ≡ true → b ≡ true
-both_second true b h = h
-both_second false b h = cc
-
 -- ---- cells of a list with one more at the end
-
-pub either : (a b : Bool) → (a || b) ≡ true → (a ≡ true) ⊎ (b ≡ true)
-either true b h = inl refl
-either false b h = inr h
-
-or_first : (a b : Bool) → a ≡ true → (a || b) ≡ true
-or_first a b h = ap (λ v. v || b) h
-
-or_second : (a b : Bool) → b ≡ true → (a || b) ≡ true
-or_second true b h = refl
-or_second false b h = h
 
 listed_one : (c : Cell) (x y : ℤ) → listed (c ∷ []) x y ≡ true → (x ≡ c.x) × (y ≡ c.y)
 listed_one c x y h =
-    elim (either (same_cell (cell x y) c) false h) [
+    elim (or_cases (same_cell (cell x y) c) false h) [
       | inl e ↦ let s = same_cell_is (cell x y) c e in (ap (λ (d : Cell). d.x) s, ap (λ (d : Cell). d.y) s)
       | inr e ↦ cc
     ]
 
 listed_push : (cs : List Cell) (c : Cell) (x y : ℤ) → listed (cs ++ (c ∷ [])) x y ≡ true → (listed cs x y ≡ true) ⊎ ((x ≡ c.x) × (y ≡ c.y))
 listed_push cs c x y h =
-    elim (either _ _ (sym (listed-append_at cs (c ∷ []) x y) ∙ h)) [
+    elim (or_cases _ _ (sym (listed-append_at cs (c ∷ []) x y) ∙ h)) [
       | inl e ↦ inl e
       | inr e ↦ inr (listed_one c x y e)
     ]
 
 listed_old : (cs : List Cell) (c : Cell) (x y : ℤ) → listed cs x y ≡ true → listed (cs ++ (c ∷ [])) x y ≡ true
-listed_old cs c x y h = listed-append_at cs (c ∷ []) x y ∙ or_first _ _ h
+listed_old cs c x y h = listed-append_at cs (c ∷ []) x y ∙ or_left _ _ h
 
 listed_new : (cs : List Cell) (c : Cell) (x y : ℤ) → x ≡ c.x → y ≡ c.y → listed (cs ++ (c ∷ [])) x y ≡ true
 listed_new cs c x y e f =
     let here : cell x y ≡ c = λ i. record { y = f i; x = e i } in
-    listed-append_at cs (c ∷ []) x y ∙ or_second (listed cs x y) _ (ap (λ (d : Cell). same_cell d c || false) here ∙ or_first _ _ (same_cell-itself c))
+    listed-append_at cs (c ∷ []) x y ∙ or_right (listed cs x y) _ (ap (λ (d : Cell). same_cell d c || false) here ∙ or_left _ _ (same_cell-itself c))
 
 -- a cell of a run that is one longer is of the run, or it is the one more
 last_or_before : (place c : Cell) (is : List Item) (n : ℕ) (x y : ℤ) → c.x ≡ place.x +ℤ pos (columns is + n) → IsRun place is (n + 1) x y → IsRun place is n x y ⊎ (x ≡ c.x)
@@ -354,8 +336,8 @@ added_down left from to m n old middle new h e f y x = (
 -- a test of two cells, read
 pub same_by_tests : (a b : Cell) → (int_eq a.y b.y && int_eq a.x b.x) ≡ true → a ≡ b
 same_by_tests a b h =
-    let y : a.y ≡ b.y = (Decides-int_eq a.y b.y).0 (both_first _ _ h) in
-    let x : a.x ≡ b.x = (Decides-int_eq a.x b.x).0 (both_second _ _ h) in
+    let y : a.y ≡ b.y = (Decides-int_eq a.y b.y).0 (and_parts _ _ h).0 in
+    let x : a.x ≡ b.x = (Decides-int_eq a.x b.x).0 (and_parts _ _ h).1 in
     λ i. record { y = y i; x = x i }
 
 pub ahead_by_tests : (left : ℤ) (pen c : Cell) → IsNext left pen c → (int_eq c.y pen.y && int_eq c.x pen.x) ≡ false → IsAhead pen c

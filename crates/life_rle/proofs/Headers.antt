@@ -1,16 +1,15 @@
 -- The parts of a header, one after the other: each stands at one place.
-use Rattle.std.proofs.Common.{◌≡◌, ◌≢◌, ℕ, ◌+◌, ◌<◌, ◌≤◌, ◌⊎◌, true, false, not, List, [], ◌∷◌, ◌++◌, length, get_or, take, drop, map, codes, refl, sym, ap, ◌∙◌, subst, inl, inr, arith, Option, Some, None, MatchOption, IfSome, IfNone}
-use Rattle.std.specs.List.{AllByRecursion, position}
+use Rattle.std.proofs.Common.{◌≡◌, ◌≢◌, ℕ, ◌<◌, ◌≤◌, ◌⊎◌, true, false, List, [], ◌∷◌, ◌++◌, length, map, codes, refl, sym, ap, ◌∙◌, subst, inl, inr, arith, Option, Some, None, MatchOption, IfSome, IfNone}
 use Rattle.std.specs.Char.{is_ascii_digit, to_ascii_lowercase}
-use Rattle.std.proofs.lemmas.List.{append-nil, append_cancel_left, drop_more, drop_all}
-use Rattle.std.proofs.lemmas.Bool.{and_parts, not-true, not-false, cases_Bool, or_cases, eqb-true, ne_eqb}
+use Rattle.std.proofs.lemmas.List.{append_cancel_left}
+use Rattle.std.proofs.lemmas.Bool.{and_parts, cases_Bool, or_cases, eqb-true, ne_eqb}
 use Rattle.rle_items.specs.Numbers.{IsDigits, value}
 use Rattle.rle_items.specs.Gaps.{IsAtCount}
 use Rattle.rle_items.specs.SpellingLaws.{one_count, digit_range}
 use Rattle.text_lines.specs.Blanks.{is_blank_byte, IsBlank, IsPassedOver}
 use Rattle.life_rle.specs.Header.{IsPast, IsPastNumber, IsPastValue, BeginsWithSize, GivesRule, IsRuleName, NamesLife, HasHeaderForm, IsHeader}
 use Rattle.life_rle.specs.HeaderRead.{IsPastBlanks, BeginsInked, IsWordOf}
-use Rattle.rle_items.specs.Firsts.{cut_at, none_passes}
+use Rattle.rle_items.specs.FirstLaws.{IsRun, one_run}
 
 pub if_some : {X : Type 0} (P : Type 0) (Q : X → Type 0) (r : Option X) → MatchOption r P Q → IfSome r Q
 if_some P Q None h = tt
@@ -26,25 +25,8 @@ none_by P Q (Some x) f h = tt
 
 -- ---- blanks
 
-blanks : (bs : List ℕ) → AllByRecursion (λ b. not (is_blank_byte b) ≡ false) bs → IsBlank bs
-blanks [] h = tt
-blanks (b ∷ bs) h = (not-false _ h.0, blanks bs h.1)
-
-pub past_blanks : (line : List ℕ) (n : ℕ) → position (λ b. not (is_blank_byte b)) line ≡ Some n → IsPastBlanks line (drop n line)
-past_blanks line n e =
-    let cut = cut_at (λ b. not (is_blank_byte b)) line n e in
-    let more : drop n line ≡ get_or line n 0 ∷ drop (n + 1) line = drop_more line n 0 cut.within in
-    record {
-      gap = take n line;
-      split = cut.whole ∙ ap (λ (bs : List ℕ). take n line ++ bs) (sym more);
-      blank = blanks (take n line) cut.others;
-      ended = λ b bs k. let same : get_or line n 0 ≡ b = cc in subst (λ (c : ℕ). is_blank_byte c ≡ false) same (not-true _ cut.passes);
-    }
-
-pub past_all_blanks : (line : List ℕ) (n : ℕ) → n ≡ length line → position (λ b. not (is_blank_byte b)) line ≡ None → IsPastBlanks line (drop n line)
-past_all_blanks line n l e =
-    subst (λ (bs : List ℕ). IsPastBlanks line bs) (sym (drop_all n line (omega arith)))
-    (record { gap = line; split = sym (append-nil line); blank = blanks line (none_passes (λ b. not (is_blank_byte b)) line e); ended = λ b bs k. absurd cc })
+pub past_blanks : (line gap more : List ℕ) → IsRun is_blank_byte line gap more → IsPastBlanks line more
+past_blanks line gap more h = record { gap = gap; split = h.split; blank = h.each; ended = h.ended }
 
 -- bytes that begin with no blank
 abbrev pub EndsBlanks : List ℕ → Type 0
@@ -52,10 +34,7 @@ EndsBlanks more = (b : ℕ) (bs : List ℕ) → more ≡ b ∷ bs → is_blank_b
 
 -- blanks end at one place
 same_blanks : (gap other m n : List ℕ) → IsBlank gap → IsBlank other → EndsBlanks m → EndsBlanks n → gap ++ m ≡ other ++ n → m ≡ n
-same_blanks [] [] m n p q f g e = e
-same_blanks [] (b ∷ other) m n p q f g e = absurd (let inked = f b (other ++ n) e in let blank = q.0 in cc)
-same_blanks (b ∷ gap) [] m n p q f g e = absurd (let inked = g b (gap ++ m) (sym e) in let blank = p.0 in cc)
-same_blanks (b ∷ gap) (c ∷ other) m n p q f g e = let more : gap ++ m ≡ other ++ n = cc in same_blanks gap other m n p.1 q.1 f g more
+same_blanks gap other m n p q f g e = (one_run is_blank_byte gap other m n p q f g e).1
 
 inked_ends : (part rest : List ℕ) → BeginsInked part → EndsBlanks (part ++ rest)
 inked_ends [] rest h = absurd h

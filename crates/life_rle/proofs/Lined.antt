@@ -1,17 +1,13 @@
 -- The first lines of a text.
-use Rattle.std.proofs.Common.{◌≡◌, ℕ, ◌<◌, ◌≤◌, ◌⊎◌, true, false, List, [], ◌∷◌, ◌++◌, length, refl, sym, ap, ◌∙◌, subst, inl, inr, arith, eqb}
+use Rattle.std.proofs.Common.{◌≡◌, ℕ, ◌<◌, ◌≤◌, false, List, [], ◌∷◌, ◌++◌, length, refl, sym, ap, ◌∙◌, subst, inl, inr, arith, eqb}
 use Rattle.std.specs.List.{AllByRecursion}
 use Rattle.std.specs.Str.Lines.{lines}
 use Rattle.std.proofs.lemmas.List.{append_assoc, append-nil, length-append}
-use Rattle.std.proofs.lemmas.Bool.{eqb-true}
 use Rattle.text_lines.specs.Lines.{front, first_line, behind}
 use Rattle.life_rle.specs.Rests.{BeginsWithLines, EndsWith}
 use Rattle.text_lines.specs.LineLaws.{feed_or_not, lines_step}
 
 -- ---- what stands at the end
-
-pub whole_ends : (text : List ℕ) → EndsWith text text
-whole_ends text = record { before = []; split = refl }
 
 pub ends_on : (text middle rest : List ℕ) → EndsWith text middle → EndsWith middle rest → EndsWith text rest
 ends_on text middle rest p q = record { before = p.before ++ q.before; split = p.split ∙ ap (λ (bs : List ℕ). p.before ++ bs) q.split ∙ sym (append_assoc p.before q.before rest) }
@@ -26,10 +22,6 @@ behind_ends text =
       | inr h ↦ record { before = text; split = sym (ap (λ (bs : List ℕ). text ++ bs) h.behind_is ∙ append-nil text) }
     ]
 
--- what stands behind a line is nothing, or begins a line
-pub behind_begins : (text : List ℕ) → (behind text ≡ []) ⊎ EndsWith text (10 ∷ behind text)
-behind_begins text = elim (feed_or_not text) [ inl h ↦ inr (record { before = front text; split = h.whole }) | inr h ↦ inl h.behind_is ]
-
 -- ---- lines before a rest
 
 pub lines_end : (text : List ℕ) (head : List (List ℕ)) (rest : List ℕ) → BeginsWithLines text head rest → EndsWith text rest
@@ -43,10 +35,6 @@ lines_split text (line ∷ head) rest h = lines_step text h.0 ∙ (λ k. h.1.0 k
 pub lines_push : (text : List ℕ) (head : List (List ℕ)) (rest : List ℕ) → BeginsWithLines text head rest → 0 < length rest → BeginsWithLines text (head ++ (first_line rest ∷ [])) (behind rest)
 lines_push text [] rest h some = (omega (arith, ap length h), (ap first_line h, ap behind h))
 lines_push text (line ∷ head) rest h some = (h.0, (h.1.0, lines_push (behind text) head rest h.1.1 some))
-
-pub each_push : (P : List ℕ → Type 0) (head : List (List ℕ)) (line : List ℕ) → AllByRecursion P head → P line → AllByRecursion P (head ++ (line ∷ []))
-each_push P [] line h p = (p, tt)
-each_push P (l ∷ head) line h p = (h.0, each_push P head line h.1 p)
 
 -- two ways to go by lines up to the first of another kind are one
 pub record IsSameRest (head other : List (List ℕ)) (rest last : List ℕ) : Type 0 where
@@ -67,7 +55,3 @@ one_rest P text (l ∷ head) (r ∷ other) rest last g h p q n m =
 pub some_of_false : (text : List ℕ) → false ≡ eqb (length text) 0 → 0 < length text
 some_of_false [] e = cc
 some_of_false (b ∷ bs) e = omega arith
-
-pub none_of_true : (text : List ℕ) → true ≡ eqb (length text) 0 → text ≡ []
-none_of_true [] e = refl
-none_of_true (b ∷ bs) e = let none = eqb-true (length (b ∷ bs)) 0 (sym e) in absurd (omega arith)

@@ -12,7 +12,7 @@ use Rattle.rle_items.specs.Numbers.{value, IsWhole}
 use Rattle.rle_items.specs.Items.{AreCells}
 use Rattle.rle_items.specs.Spelling.{IsWhite}
 use Rattle.rle_items.specs.SpellingLaws.{digit_range, white_kind, one_list}
-use Rattle.rle_items.specs.DrawnCells.{same_cells}
+use Rattle.rle_items.specs.DrawnLaws.{same_cells}
 use Rattle.text_lines.specs.Lines.{behind}
 use Rattle.text_lines.specs.Blanks.{IsPassedOver, words}
 use Rattle.life_rle.specs.Comments.{blanked}

@@ -9,6 +9,7 @@ use Rattle.life_cells.specs.declared.cell.Cell.{Cell}
 use Rattle.life_cells.specs.declared.bounds.Bounds.{Bounds}
 use Rattle.life_cells.specs.Cells.{cell}
 use Rattle.life_cells.specs.Boxes.{IsLeastBox}
+use Rattle.life_cells.specs.BoxLaws.{one_least_box}
 use Rattle.rle_items.specs.declared.item.Item.{Item}
 use Rattle.rle_items.specs.declared.item.Tag.{Tag}
 use Rattle.rle_items.specs.declared.item.Tag.TheVariants.{Dead, Alive, RowEnd}
@@ -291,17 +292,6 @@ tidy_items_are_one t t' place is js s a b c d = one_list t t' place.x (place.x +
 
 -- ---- frames
 
-same_box : (box other : Bounds) (s : Plane) → IsLeastBox box s → IsLeastBox other s → box ≡ other
-same_box box other s a b =
-    let w = a.least other b.holds in let v = b.least box a.holds in
-    let l = w.left in let t = w.top in let r = w.right in let d = w.bottom in
-    let l' = v.left in let t' = v.top in let r' = v.right in let d' = v.bottom in
-    let left : box.left ≡ other.left = omega (arith, ints) in
-    let top : box.top ≡ other.top = omega (arith, ints) in
-    let right : box.right ≡ other.right = omega (arith, ints) in
-    let bottom : box.bottom ≡ other.bottom = omega (arith, ints) in
-    λ i. record { left = left i; top = top i; right = right i; bottom = bottom i }
-
 record SameFrame (place other : Cell) (width width' height height' : ℕ) : Type 0 where
   corner : place ≡ other
   across : width ≡ width'
@@ -315,7 +305,7 @@ same_frame s place other width width' height height' (inl a) (inl b) = record { 
 same_frame s place other width width' height height' (inl a) (inr b) = lives_nowhere b.0 s a.0 b.1.0
 same_frame s place other width width' height height' (inr a) (inl b) = lives_nowhere a.0 s b.0 a.1.0
 same_frame s place other width width' height height' (inr a) (inr b) =
-    let e = same_box a.0 b.0 s a.1.0 b.1.0 in
+    let e = one_least_box s a.0 b.0 a.1.0 b.1.0 in
     let left = ap (λ (x : Bounds). x.left) e in let top = ap (λ (x : Bounds). x.top) e in let right = ap (λ (x : Bounds). x.right) e in let bottom = ap (λ (x : Bounds). x.bottom) e in
     let w = a.1.1.1.0 in let w' = b.1.1.1.0 in let h = a.1.1.1.1 in let h' = b.1.1.1.1 in
     record { corner = a.1.1.0 ∙ (λ i. record { y = top i; x = left i }) ∙ sym b.1.1.0; across = omega (arith, ints); down = omega (arith, ints) }

@@ -3,7 +3,7 @@ use Rattle.std.proofs.Common.{◌≡◌, ◌≢◌, ℕ, ◌+◌, ◌-◌, ◌*�
 use Rattle.std.specs.List.{AllByRecursion, position, slice_split, All}
 use Rattle.std.specs.Str.{all_ascii_digits}
 use Rattle.std.proofs.lemmas.Int.{ints}
-use Rattle.std.proofs.lemmas.List.{append_assoc, append-nil, length-append, append_cancel_left, take_all, length-drop}
+use Rattle.std.proofs.lemmas.List.{append_assoc, append-nil, length-append, append_cancel_left}
 use Rattle.std.proofs.lemmas.List.Splits.{slice_split_at, slice_split_none}
 use Rattle.std.proofs.lemmas.List.Elements.{All-from_recursion}
 use Rattle.std.proofs.lemmas.Bool.{eqb-true, eq-eqb, ne_eqb, cases_lt}
@@ -17,7 +17,7 @@ use Rattle.life_rle.specs.Told.{is_comma, IsCommaSplit, TellsSize, TellsNumber, 
 use Rattle.rle_items.specs.Gaps.{IsAtCount}
 use Rattle.rle_items.specs.SpellingLaws.{one_count}
 use Rattle.rle_items.specs.NumberLaws.{value_more}
-use Rattle.rle_items.specs.Firsts.{cut_at, none_passes}
+use Rattle.rle_items.specs.FirstLaws.{cut_at, none_passes}
 use Rattle.life_rle.proofs.OneMeaning.{one_comma, no_comma_within, no_minus}
 
 -- ---- numbers
@@ -142,9 +142,6 @@ pub no_split : (word numbers : List ℕ) → word ≡ codes "Pos=" ++ numbers �
 no_split word numbers e n place h = n h.x h.y (numbers_of word numbers place e h)
 
 -- what follows a place, as a slice has it
-pub slice_rest : (xs : List ℕ) (k : ℕ) → take (length xs - k) (drop k xs) ≡ drop k xs
-slice_rest xs k = take_all (length xs - k) (drop k xs) (omega (arith, length-drop k xs))
-
 -- ---- the words of a line
 
 abbrev some_words : List (List ℕ) → List (List ℕ)

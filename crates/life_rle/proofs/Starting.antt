@@ -4,6 +4,7 @@ use Rattle.std.specs.List.{AllByRecursion, find}
 use Rattle.std.specs.Option.{is_some}
 use Rattle.std.specs.Str.Lines.{lines}
 use Rattle.std.proofs.lemmas.List.{append-nil, length-append}
+use Rattle.life_plane.specs.ListLaws.{all_push}
 use Rattle.life_cells.specs.Cells.{cell}
 use Rattle.life_cells.specs.declared.cell.Cell.{Cell}
 use Rattle.life_rle.specs.declared.start.PlaceLine.{PlaceLine}
@@ -18,7 +19,7 @@ use Rattle.rle_items.specs.ItemFaults.{BeginsAt}
 use Rattle.life_rle.specs.TextFaults.{HasPlaceLine, HasFarPlace, StartStopsWith}
 use Rattle.life_rle.specs.Opened.{HasFound, IsOpened, Gives, GivesFar, PlaceIsRefused}
 use Rattle.life_rle.specs.HeaderRead.{HeaderIsRefused}
-use Rattle.life_rle.proofs.Lined.{lines_push, lines_split, each_push}
+use Rattle.life_rle.proofs.Lined.{lines_push, lines_split}
 use Rattle.text_lines.specs.LineLaws.{behind_short}
 
 -- ---- what was found
@@ -47,7 +48,7 @@ module _ (text rest : List ℕ) (some : 0 < length rest) (passed : IsPassedOver 
   opened_first None none h gives found line at = record {
     head = h.head ++ (first_line rest ∷ []);
     lines_are = lines_push text h.head rest h.lines_are some;
-    passed = each_push IsPassedOver h.head (first_line rest) h.passed passed;
+    passed = all_push IsPassedOver h.head (first_line rest) h.passed passed;
     found_is = (
       find_new gives_place h.head (first_line rest) h.found_is gives ∙ ap (λ (l : List ℕ). Some l) (sym line),
       record { before = h.head; rest = rest; lines_are = h.lines_are; others = h.found_is; gives = gives; place = at },
@@ -57,7 +58,7 @@ module _ (text rest : List ℕ) (some : 0 < length rest) (passed : IsPassedOver 
 
   found_again : (head : List (List ℕ)) (before : Option PlaceLine) → (is_some before ≡ true) ⊎ (gives_place (first_line rest) ≡ false) → HasFound text head before → HasFound text (head ++ (first_line rest ∷ [])) before
   found_again head None (inl n) h = cc
-  found_again head None (inr n) h = each_push (λ l. gives_place l ≡ false) head (first_line rest) h n
+  found_again head None (inr n) h = all_push (λ l. gives_place l ≡ false) head (first_line rest) h n
   found_again head (Some found) other h = (find_old gives_place head (first_line rest) found.line.now h.0, h.1)
 
   -- another line
@@ -65,7 +66,7 @@ module _ (text rest : List ℕ) (some : 0 < length rest) (passed : IsPassedOver 
   opened_again before other h = record {
     head = h.head ++ (first_line rest ∷ []);
     lines_are = lines_push text h.head rest h.lines_are some;
-    passed = each_push IsPassedOver h.head (first_line rest) h.passed passed;
+    passed = all_push IsPassedOver h.head (first_line rest) h.passed passed;
     found_is = found_again h.head before other h.found_is;
     number = one_more h.head h.number;
   }

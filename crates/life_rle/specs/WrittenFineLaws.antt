@@ -18,7 +18,7 @@ use Rattle.rle_items.specs.ItemLaws.{rows_push, columns_push_end, columns_push_o
 use Rattle.life_rle.specs.Written.{may_follow, IsTidyAfter, IsTidyBody, IsFrame}
 use Rattle.life_rle.specs.Drawn.{AreSmall}
 use Rattle.rle_items.specs.Reach.{IsInReach, cursor_behind, AreFineFrom}
-use Rattle.rle_items.specs.DrawnCells.{IsDrawn, drawn_none, drawn_push, same_cells as same_planes}
+use Rattle.rle_items.specs.DrawnLaws.{IsDrawn, drawn_none, drawn_push, same_cells as same_planes}
 
 -- ---- where the cursor of tidy items stands
 

@@ -1,55 +1,19 @@
 -- What stands at the front of a rest.
-use Rattle.std.proofs.Common.{◌≡◌, ◌≢◌, ℕ, ◌<◌, ◌≤◌, ◌⊎◌, ◌+◌, true, false, not, List, [], ◌∷◌, ◌++◌, length, get_or, take, drop, refl, sym, ap, ◌∙◌, subst, inl, inr, arith, eqb, Some, None}
-use Rattle.std.specs.List.{AllByRecursion, position}
-use Rattle.std.proofs.lemmas.List.{append_assoc, append-nil, length-append, drop_more, drop_all}
-use Rattle.std.proofs.lemmas.Bool.{not-true, not-false}
-use Rattle.life_plane.specs.ListLaws.{all_weaker}
+use Rattle.std.proofs.Common.{◌≡◌, ◌≢◌, ℕ, ◌<◌, ◌⊎◌, List, [], ◌∷◌, ◌++◌, length, refl, sym, ap, ◌∙◌, subst, inl, inr, Some, None}
+use Rattle.std.proofs.lemmas.List.{append_assoc}
 use Rattle.rle_items.specs.declared.item.Item.{Item}
 use Rattle.rle_items.specs.Numbers.{value}
 use Rattle.rle_items.specs.Spelling.{IsCount, IsWhite, is_white, tag_of}
 use Rattle.rle_items.specs.SpellingLaws.{IsGapKind}
-use Rattle.rle_items.specs.Gaps.{IsAtCount, IsPast, IsAtTag, IsAtEnd}
+use Rattle.rle_items.specs.Gaps.{IsPast, IsAtTag, IsAtEnd}
 use Rattle.rle_items.specs.ItemFaults.{BeginsAt, HasBadCount, HasStray, EndsEarly}
 use Rattle.rle_items.specs.Read.{IsItemAt}
-use Rattle.rle_items.specs.Firsts.{cut_at, none_passes}
+use Rattle.rle_items.specs.FirstLaws.{IsRun}
 
 -- ---- white space
 
-whites : (bs : List ℕ) → AllByRecursion (λ b. not (is_white b) ≡ false) bs → IsWhite bs
-whites bs h = all_weaker (λ b. not (is_white b) ≡ false) (λ b. is_white b ≡ true) (λ b e. not-false _ e) bs h
-
-pub past_white : (line : List ℕ) (n : ℕ) → position (λ b. not (is_white b)) line ≡ Some n → IsPast IsWhite line (drop n line)
-past_white line n e =
-    let cut = cut_at (λ b. not (is_white b)) line n e in
-    let more : drop n line ≡ get_or line n 0 ∷ drop (n + 1) line = drop_more line n 0 cut.within in
-    record {
-      gap = take n line;
-      split = cut.whole ∙ ap (λ (bs : List ℕ). take n line ++ bs) (sym more);
-      gap_is = whites (take n line) cut.others;
-      ended = λ b bs k h. let same : get_or line n 0 ≡ b = cc in let other : is_white b ≡ false = subst (λ (c : ℕ). is_white c ≡ false) same (not-true _ cut.passes) in let white = h.0 in cc;
-    }
-
-pub past_all_white : (line : List ℕ) (n : ℕ) → n ≡ length line → position (λ b. not (is_white b)) line ≡ None → IsPast IsWhite line (drop n line)
-past_all_white line n l e = subst (λ (bs : List ℕ). IsPast IsWhite line bs) (sym (drop_all n line (omega arith))) (record {
-  gap = line;
-  split = sym (append-nil line);
-  gap_is = whites line (none_passes (λ b. not (is_white b)) line e);
-  ended = λ b bs k. absurd cc;
-})
-
--- ---- lengths
-
-pub past_short : (Gap : List ℕ → Type 0) (rest more : List ℕ) → IsPast Gap rest more → length more ≤ length rest
-past_short Gap rest more p = omega (arith, length-append p.gap more, ap length p.split)
-
-pub count_short : (rest digits more : List ℕ) → IsAtCount rest digits more → length more ≤ length rest
-count_short rest digits more c = omega (arith, length-append digits more, ap length c.split)
-
--- ---- empty or not
-
-pub some_of_false : (text : List ℕ) → false ≡ eqb (length text) 0 → 0 < length text
-some_of_false [] e = cc
-some_of_false (b ∷ bs) e = omega arith
+pub past_white : (rest gap more : List ℕ) → IsRun is_white rest gap more → IsPast IsWhite rest more
+past_white rest gap more h = record { gap = gap; split = h.split; gap_is = h.each; ended = λ b bs k white. let other = h.ended b bs k in let yes = white.0 in cc }
 
 -- ---- what stands where a tag should
 

@@ -10,7 +10,7 @@ use Rattle.rle_items.specs.Spelling.{Spells, IsNone}
 use Rattle.rle_items.specs.Words.{WordMeans}
 use Rattle.rle_items.specs.ItemFaults.{ItemsStopWith, IsForLimit}
 use Rattle.rle_items.specs.Faults.{origin, IsFineWord, GoesOn, StopsWith}
-use Rattle.rle_items.specs.DrawnCells.{same_cells}
+use Rattle.rle_items.specs.DrawnLaws.{same_cells}
 use Rattle.rle_items.specs.SpellingLaws.{none_kind, one_list, one_end}
 use Rattle.rle_items.specs.OneReadingLaws.{one_items_refusal, fine_items_are_read, said_items_are_limited}
 

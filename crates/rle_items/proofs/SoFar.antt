@@ -21,7 +21,7 @@ use Rattle.rle_items.specs.Gaps.{IsAtEnd}
 use Rattle.rle_items.specs.ItemFaults.{BeginsAt, IsReadTo, IsFault, ItemsStopWith}
 use Rattle.rle_items.specs.Read.{IsItemAt, IsRead}
 use Rattle.rle_items.specs.Cursor.{IsBehind, stands_at, IsWithin, Passes, HasRoom, HasMoved, item_cells}
-use Rattle.rle_items.specs.DrawnCells.{IsDrawn, drawn_none, drawn_push}
+use Rattle.rle_items.specs.DrawnLaws.{IsDrawn, drawn_none, drawn_push}
 
 -- ---- the cursor
 

@@ -9,10 +9,10 @@ pub mod ItemFaults
 pub mod Faults
 pub mod Cursor
 pub mod Read
-pub mod Firsts
+pub mod FirstLaws
 pub mod NumberLaws
 pub mod ItemLaws
 pub mod SpellingLaws
 pub mod FineLaws
 pub mod OneReadingLaws
-pub mod DrawnCells
+pub mod DrawnLaws

@@ -6,6 +6,8 @@ use Rattle.std.proofs.lemmas.List.{append_assoc, append-nil}
 use Rattle.std.proofs.lemmas.Bool.{and_parts, leb-true, cases_Bool, ne_eqb, eqb-true, or_cases}
 use Rattle.rle_items.specs.declared.item.Item.{Item}
 use Rattle.rle_items.specs.declared.item.Tag.{Tag}
+use Rattle.rle_items.specs.NumberLaws.{each_digit}
+use Rattle.rle_items.specs.FirstLaws.{one_run}
 use Rattle.rle_items.specs.Spelling.{SpellsItem, Spells, IsNone, IsWhite, is_white, IsCount, tag_of}
 use Rattle.rle_items.specs.Gaps.{gap_of, IsAtCount, IsNextItem}
 use Rattle.rle_items.specs.declared.gaps.Gaps.{Gaps}
@@ -13,24 +15,9 @@ use Rattle.rle_items.specs.declared.gaps.Gaps.TheVariants as gaps
 
 -- ---- digits
 
-digit_of_more : (b : ℕ) (bs : List ℕ) → all_ascii_digits (b ∷ bs) ≡ true → is_ascii_digit b ≡ true
-digit_of_more b bs h = (and_parts _ _ h).0
-
-same_digits : (d e r s : List ℕ) → all_ascii_digits d ≡ true → all_ascii_digits e ≡ true
-    → ((b : ℕ) (bs : List ℕ) → r ≡ b ∷ bs → is_ascii_digit b ≡ false) → ((b : ℕ) (bs : List ℕ) → s ≡ b ∷ bs → is_ascii_digit b ≡ false)
-    → d ++ r ≡ e ++ s → (d ≡ e) × (r ≡ s)
-same_digits [] [] r s p q f g h = (refl, h)
-same_digits [] (y ∷ e) r s p q f g h = absurd (let yes = digit_of_more y e q in let no = f y (e ++ s) h in cc)
-same_digits (x ∷ d) [] r s p q f g h = absurd (let yes = digit_of_more x d p in let no = g x (d ++ r) (sym h) in cc)
-same_digits (x ∷ d) (y ∷ e) r s p q f g h =
-    let head : x ≡ y = cc in
-    let tail : d ++ r ≡ e ++ s = cc in
-    let rest = same_digits d e r s (and_parts _ _ p).1 (and_parts _ _ q).1 f g tail in
-    (λ i. head i ∷ rest.0 i, rest.1)
-
 -- the digits at the front and what follows them are determined
 pub one_count : (bytes d r e s : List ℕ) → IsAtCount bytes d r → IsAtCount bytes e s → (d ≡ e) × (r ≡ s)
-one_count bytes d r e s p q = same_digits d e r s p.digits_are q.digits_are p.ended q.ended (sym p.split ∙ q.split)
+one_count bytes d r e s p q = one_run is_ascii_digit d e r s (each_digit d p.digits_are) (each_digit e q.digits_are) p.ended q.ended (sym p.split ∙ q.split)
 
 -- ---- counts and tags
 
@@ -100,10 +87,7 @@ dark_byte b bs dark c cs e = let same : b ≡ c = cc in subst (λ (x : ℕ). is_
 
 -- white space ends at one place
 pub same_gap : (gap other m n : List ℕ) → IsWhite gap → IsWhite other → BeginsDark m → BeginsDark n → gap ++ m ≡ other ++ n → m ≡ n
-same_gap [] [] m n p q f g e = e
-same_gap [] (b ∷ other) m n p q f g e = absurd (let dark = f b (other ++ n) e in let white = q.0 in cc)
-same_gap (b ∷ gap) [] m n p q f g e = absurd (let dark = g b (gap ++ m) (sym e) in let white = p.0 in cc)
-same_gap (b ∷ gap) (c ∷ other) m n p q f g e = let more : gap ++ m ≡ other ++ n = cc in same_gap gap other m n p.1 q.1 f g more
+same_gap gap other m n p q f g e = (one_run is_white gap other m n p q f g e).1
 
 -- ---- items and their gaps
 

@@ -35,7 +35,7 @@ has_feed text within =
       line_is = rw other refl;
     }
 
-pub has_no_feed : (text : List ℕ) → length text ≤ position_or_len is_line_feed text → HasNoFeed text
+has_no_feed : (text : List ℕ) → length text ≤ position_or_len is_line_feed text → HasNoFeed text
 has_no_feed text past =
     let size = length-take (position_or_len is_line_feed text) text in
     let same : eqb (length (front text)) (length text) ≡ true = eq-eqb _ _ (omega arith) in

@@ -1,14 +1,16 @@
-use Rattle.std.proofs.Common.{subst}
+use Rattle.std.proofs.Common.{subst, sym}
+use Rattle.std.proofs.lemmas.Bool.{eqb-true}
+use Rattle.std.proofs.lemmas.List.{nil_from_length}
 use Rattle.std.proofs.lemmas.Result.{err_from_is_err_and}
 use Rattle.life_rle.specs.Header.{IsHeader}
-use Rattle.life_rle.proofs.Lined.{some_of_false, none_of_true}
+use Rattle.life_rle.proofs.Lined.{some_of_false}
 use Rattle.life_rle.proofs.Starting.{no_lines, stops_at_header, body_from, stops_at_place}
 use Rattle.life_rle.proofs.start.read_start.Goals as goal
 
 pub returns-then-is_empty-clause-refusal : goal.returns-then-is_empty-clause-refusal
 returns-then-is_empty-clause-refusal c =
     let opening = c.skip_passed_over-opening.result in
-    no_lines c.args.text.now opening.rest.now opening.place_line opening.line c.skip_passed_over-opening.ensures.opened (none_of_true opening.rest.now c.if-is_empty.ensures)
+    no_lines c.args.text.now opening.rest.now opening.place_line opening.line c.skip_passed_over-opening.ensures.opened (nil_from_length opening.rest.now (eqb-true _ 0 (sym c.if-is_empty.ensures)))
 
 pub returns-in_err-check_header-clause-refusal : goal.returns-in_err-check_header-clause-refusal
 returns-in_err-check_header-clause-refusal c =

@@ -1,5 +1,5 @@
 use Rattle.std.proofs.Common.{rules, ◌∙◌}
-use Rattle.rle_items.specs.DrawnCells.{row_push}
+use Rattle.rle_items.specs.DrawnLaws.{row_push}
 use Rattle.rle_items.proofs.cells.add_row_cells.Goals as goal
 
 pub loop-step-preserved : goal.loop-step-preserved
