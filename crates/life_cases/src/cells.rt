@@ -94,7 +94,7 @@ pub fn show_shape(alloc: Global, text: &[u8], report: &mut String) -> Result<boo
     if pattern.cells.is_empty() {
         return Ok(false);
     }
-    let (shape, corner) = shape_of(alloc, &pattern.cells)?;
+    let (shape, corner) = shape_of(&pattern.cells)?;
     let (x, y) = (corner.x, corner.y);
     write!(report, "corner {x},{y} ")?;
     show_cells(report, "cells", shape.cells())?;

@@ -1,10 +1,13 @@
 -- Cells that are added to others.
-use Rattle.std.proofs.Common.{◌≡◌, ◌⊎◌, ℕ, zero, suc, ◌+◌, ◌<◌, ◌≤◌, Bool, true, false, List, [], ◌∷◌, ◌++◌, length, Option, Some, refl, sym, ap, subst, ◌∙◌, arith, inl, inr}
+use Rattle.std.proofs.Common.{◌≡◌, ◌⊎◌, ℕ, ◌+◌, ◌<◌, ◌≤◌, Bool, true, false, List, [], ◌∷◌, ◌++◌, length, Some, refl, sym, ap, subst, ◌∙◌, arith, inl, inr}
 use Rattle.std.specs.Prelude.{◌||◌}
 use Rattle.std.specs.Bool.{if◌then◌else◌}
 use Rattle.std.specs.List.{AllByRecursion, list_any, slice_get}
-use Rattle.std.proofs.lemmas.List.{append_assoc}
+use Rattle.std.proofs.lemmas.List.{append_assoc, append-nil}
 use Rattle.std.proofs.lemmas.Option.{slice_get_within}
+use Rattle.std.proofs.lemmas.Bool.{or_cases, or_left, or_right}
+use Rattle.life_plane.specs.NumberLaws.{lt_or_same}
+use Rattle.life_plane.specs.ListLaws.{same_item, all_append, all_weaker, all_at}
 use Rattle.indexmap.specs.IndexSet.{insert_key}
 use Rattle.life_cells.specs.declared.cell.Cell.{Cell}
 use Rattle.life_cells.specs.Laws.{listed-append_at, listed_at_place, place_of_listed}
@@ -17,32 +20,15 @@ use Rattle.life_islands.specs.Search.{Adds}
 
 -- ---- one cell
 
-pub same_item : {X : Type 0} {x y : X} {o : Option X} → o ≡ Some x → o ≡ Some y → x ≡ y
-same_item p q = cc
-
-pub lt_or_same : (k i : ℕ) → k < i + 1 → (k < i) ⊎ (k ≡ i)
-lt_or_same k i h = grind arith
-
-true_left : (a b : Bool) → a ≡ true → (a || b) ≡ true
-true_left a b h = ap (λ c. c || b) h
-
-true_right : (a b : Bool) → b ≡ true → (a || b) ≡ true
-true_right true b h = refl
-true_right false b h = h
-
-pub either : (a b : Bool) → (a || b) ≡ true → (a ≡ true) ⊎ (b ≡ true)
-either true b h = inl refl
-either false b h = inr h
-
 -- a cell that is listed stays so where more are added
 pub listed_left : (xs ys : List Cell) (c : Cell) → Lives (listed xs) c → Lives (listed (xs ++ ys)) c
-listed_left xs ys c h = listed-append_at xs ys c.x c.y ∙ true_left (listed xs c.x c.y) (listed ys c.x c.y) h
+listed_left xs ys c h = listed-append_at xs ys c.x c.y ∙ or_left (listed xs c.x c.y) (listed ys c.x c.y) h
 
 pub listed_right : (xs ys : List Cell) (c : Cell) → Lives (listed ys) c → Lives (listed (xs ++ ys)) c
-listed_right xs ys c h = listed-append_at xs ys c.x c.y ∙ true_right (listed xs c.x c.y) (listed ys c.x c.y) h
+listed_right xs ys c h = listed-append_at xs ys c.x c.y ∙ or_right (listed xs c.x c.y) (listed ys c.x c.y) h
 
 pub listed_cases : (xs ys : List Cell) (c : Cell) → Lives (listed (xs ++ ys)) c → Lives (listed xs) c ⊎ Lives (listed ys) c
-listed_cases xs ys c h = either (listed xs c.x c.y) (listed ys c.x c.y) (sym (listed-append_at xs ys c.x c.y) ∙ h)
+listed_cases xs ys c h = or_cases (listed xs c.x c.y) (listed ys c.x c.y) (sym (listed-append_at xs ys c.x c.y) ∙ h)
 
 pub listed_one : (c : Cell) → Lives (listed (c ∷ [])) c
 listed_one c = listed_at_place (c ∷ []) 0 c refl
@@ -69,31 +55,14 @@ inserted now after c is = by (list_any (same_fields c) now) refl is
 
 -- ---- lists of properties
 
-pub all_append : {X : Type 0} (P : X → Type 0) (xs ys : List X) → AllByRecursion P xs → AllByRecursion P ys → AllByRecursion P (xs ++ ys)
-all_append P [] ys h k = k
-all_append P (x ∷ xs) ys h k = (h.0, all_append P xs ys h.1 k)
-
-pub all_weaker : {X : Type 0} (P Q : X → Type 0) → ((x : X) → P x → Q x) → (xs : List X) → AllByRecursion P xs → AllByRecursion Q xs
-all_weaker P Q f [] h = tt
-all_weaker P Q f (x ∷ xs) h = (f x h.0, all_weaker P Q f xs h.1)
-
-pub all_at : {X : Type 0} (P : X → Type 0) (xs : List X) (k : ℕ) (x : X) → AllByRecursion P xs → slice_get xs k ≡ Some x → P x
-all_at P [] k x h at = absurd (cc)
-all_at P (y ∷ ys) zero x h at = subst P (same_item refl at) h.0
-all_at P (y ∷ ys) (suc k) x h at = all_at P ys k x h.1 at
-
 pub all_listed : (P : Cell → Type 0) (xs : List Cell) (c : Cell) → AllByRecursion P xs → Lives (listed xs) c → P c
 all_listed P xs c all h = let there = place_of_listed xs c.x c.y h in all_at P xs there.0 c all there.1
 
 -- ---- additions
 
-append_none : (xs : List Cell) → xs ++ [] ≡ xs
-append_none [] = refl
-append_none (x ∷ xs) = ap (λ ys. x ∷ ys) (append_none xs)
-
 -- no cell added so far, with none to add
 pub adds_nothing : (P : Cell → Type 0) (cells : List Cell) → ((c : Cell) → P c → ⊥) → Adds P cells cells
-adds_nothing P cells none = record { more = []; grown = sym (append_none cells); own = tt; all = λ c p. absurd (none c p) }
+adds_nothing P cells none = record { more = []; grown = sym (append-nil cells); own = tt; all = λ c p. absurd (none c p) }
 
 -- one addition after the other
 pub adds_both : (P Q R : Cell → Type 0) (a b c : List Cell) → Adds P a b → Adds Q b c → ((d : Cell) → P d → R d) → ((d : Cell) → Q d → R d) → ((d : Cell) → R d → P d ⊎ Q d) → Adds R a c
@@ -121,7 +90,7 @@ adds_one now after c is = by (inserted now after c is)
     }
     by (inr there) = record {
       more = [];
-      grown = there.0 ∙ sym (append_none now);
+      grown = there.0 ∙ sym (append-nil now);
       own = tt;
       all = λ d e. subst (λ xs. Lives (listed xs) d) (sym there.0) (subst (λ z. Lives (listed now) z) e there.1);
     }

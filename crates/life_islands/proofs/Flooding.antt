@@ -1,7 +1,9 @@
 -- A search by breadth for the cells that are joined with one.
-use Rattle.std.proofs.Common.{◌≡◌, ◌⊎◌, ℕ, zero, suc, ◌+◌, ◌<◌, ◌≤◌, List, [], ◌∷◌, ◌++◌, length, get_or, Some, refl, sym, ap, subst, ◌∙◌, arith, inl, inr}
+use Rattle.std.proofs.Common.{◌≡◌, ◌⊎◌, ℕ, ◌+◌, ◌<◌, ◌≤◌, List, [], ◌∷◌, length, get_or, Some, sym, ap, subst, ◌∙◌, arith, inl, inr}
 use Rattle.std.specs.List.{slice_get}
 use Rattle.std.proofs.lemmas.Option.{slice_get_within, slice_get-get_or}
+use Rattle.life_plane.specs.NumberLaws.{lt_or_same}
+use Rattle.life_plane.specs.ListLaws.{same_item, at_left}
 use Rattle.indexmap.specs.IndexSet.{insert_key}
 use Rattle.life_cells.specs.declared.cell.Cell.{Cell}
 use Rattle.life_cells.specs.Laws.{listed_at_place, place_of_listed}
@@ -10,7 +12,7 @@ use Rattle.life_cells.specs.Same.{same_fields}
 use Rattle.life_islands.specs.Joined.{Lives, Steps, LeadsBy, AreJoined}
 use Rattle.life_islands.specs.JoinedLaws.{joined_itself, joined_on, joined_step, joined_lives}
 use Rattle.life_islands.specs.Search.{Adds, AreAllJoined}
-use Rattle.life_islands.proofs.Adding.{same_item, lt_or_same, listed_left, listed_cases, only_one, listed_one, all_listed}
+use Rattle.life_islands.proofs.Adding.{listed_left, listed_cases, only_one, listed_one, all_listed}
 use Rattle.life_plane.specs.Plane.{Plane}
 
 -- cells that are joined with one, and those that steps lead to from each before a place
@@ -30,15 +32,6 @@ search_begins s start found lives is = subst (IsSearched s start 0) (sym is) (re
   joined = λ c l. subst (AreJoined s start) (only_one start c l) (joined_itself s start lives);
   tried = λ k here to lt at step. absurd (omega arith);
 })
-
-at_left : (xs ys : List Cell) (k : ℕ) → k < length xs → slice_get (xs ++ ys) k ≡ slice_get xs k
-at_left [] ys k lt = absurd (omega arith)
-at_left (x ∷ xs) ys zero lt = refl
-at_left (x ∷ xs) ys (suc k) lt = at_left xs ys k (omega arith)
-
--- the cell at a place lives
-pub found_lives : (s : Plane) (start here : Cell) (place : ℕ) (found : List Cell) → IsSearched s start place found → slice_get found place ≡ Some here → Lives s here
-found_lives s start here place found was at = joined_lives s start here (was.joined here (listed_at_place found place here at))
 
 -- the steps from one more are added
 pub search_more : (s : Plane) (start here : Cell) (place : ℕ) (before after : List Cell) → IsSearched s start place before → slice_get before place ≡ Some here → Adds (Steps s here) before after →

@@ -1,7 +1,7 @@
 -- Lemmas on the search for islands.
 pub mod Adding
 pub mod Flooding
-pub mod Rows
+pub mod Steps
 pub mod Ranking
 pub mod Noting
 pub mod Listing

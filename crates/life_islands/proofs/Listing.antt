@@ -1,5 +1,5 @@
 -- The list of islands, from those that are noted under their ranks.
-use Rattle.std.proofs.Common.{◌≡◌, ◌⊎◌, ℕ, List, [], ◌∷◌, ◌++◌, map, length, refl, sym, ap, subst, ◌∙◌, arith, inl, inr}
+use Rattle.std.proofs.Common.{◌≡◌, ◌⊎◌, ℕ, List, [], ◌∷◌, ◌++◌, map, length, get_or, refl, sym, ap, subst, ◌∙◌, arith, inl, inr, slice_get, append-nil, Some, None}
 use Rattle.std.specs.Prelude.{neg_ℤ, ◌<ℤ◌}
 use Rattle.std.specs.List.{AllByRecursion}
 use Rattle.std.specs.List.Sorted.{IsStrictlySortedBy}
@@ -8,21 +8,23 @@ use Rattle.std.specs.declared.cmp.Ordering.{Ordering}
 use Rattle.std.specs.declared.cmp.Ordering.TheVariants.{Less, Equal, Greater}
 use Rattle.std.specs.Cmp.{int_ranked}
 use Rattle.std.proofs.lemmas.Int.{ints}
+use Rattle.std.proofs.lemmas.Bool.{cases_lt}
+use Rattle.std.proofs.lemmas.Option.{slice_get_within, slice_get-get_or}
 use Rattle.std.proofs.lemmas.Map.Keys.{sorted_head, sorted_tail}
-use Rattle.life_cells.specs.Boxes.{IsInRange}
-use Rattle.life_cells.specs.Cells.{Cells, cell_cmp, alive, in_order}
-use Rattle.life_cells.specs.Laws.{alive-in_order}
+use Rattle.life_cells.specs.Cells.{Cells, cell_cmp, alive, in_order, from_list}
+use Rattle.life_cells.specs.Laws.{alive-in_order, alive-from_list, place_of_listed, listed_at_place, same_cells}
 use Rattle.life_cells.specs.Listed.{listed}
 use Rattle.life_cells.specs.declared.cell.Cell.{Cell}
 use Rattle.life_islands.specs.Islands.{IsIsland, IsNoted, IsInOne, AreIslands, IsOneIsland}
-use Rattle.life_islands.specs.IslandLaws.{sharing_islands, same_noted}
+use Rattle.life_islands.specs.IslandLaws.{sharing_islands}
 use Rattle.life_islands.specs.Joined.{Lives}
+use Rattle.life_islands.specs.JoinedLaws.{joined_itself}
+use Rattle.life_islands.specs.Search.{AreAllJoined}
 use Rattle.life_islands.specs.Order.{ComesBefore, AreInOrder}
-use Rattle.life_islands.specs.OrderLaws.{not_before_itself}
 use Rattle.life_islands.specs.Ranks.{IsRanked, IsUnderOne, AreRanked}
 use Rattle.life_islands.specs.declared.island.Island.{Island}
 use Rattle.life_islands.specs.declared.rank.Rank.{Rank}
-use Rattle.life_islands.proofs.Noting.{rank_cmp}
+use Rattle.life_islands.proofs.Noting.{rank_cmp, joined_island}
 use Rattle.life_plane.specs.Plane.{Plane}
 
 -- the island under a rank
@@ -73,57 +75,38 @@ ranked_islands_are s entries islands h rises is = subst (AreIslands s) (sym is) 
 
 -- ---- one island
 
-the_one : (s : Plane) (a : Island) → AreIslands s (a ∷ []) → IsOneIsland s
-the_one s a h = record {
-  some = (h.each.0.is.some.0, h.each.0.is.within h.each.0.is.some.0 h.each.0.is.some.1);
-  within = λ c lives. lives;
-  joined = λ c d in_c in_d. h.each.0.is.joined c d (only c (h.all c in_c)) (only d (h.all d in_d));
-  whole = λ c d in_c joined. h.each.0.is.within d (h.each.0.is.whole c d (only c (h.all c in_c)) joined);
-}
-  where
-    only : (c : Cell) → IsInOne (a ∷ []) c → Lives (alive a.cells) c
-    only c (inl lives) = lives
-    only c (inr none) = absurd none
+-- a plane that is all that is joined with one of its cells is one island
+pub one_if_whole : (s : Cells) (start : Cell) (found : List Cell) (island : Cells) → Lives (alive s) start → AreAllJoined (alive s) start found → island ≡ from_list found → island ≡ s → IsOneIsland (alive s)
+one_if_whole s start found island lives are is whole =
+    let planes : listed found ≡ alive s = sym (alive-from_list found) ∙ ap alive (sym is ∙ whole) in
+    subst (IsIsland (alive s)) planes (joined_island (alive s) start found lives are)
 
--- where the list of islands has one item, the plane is one island
-pub one_from_length : (s : Plane) (islands : List Island) → AreIslands s islands → length islands ≡ 1 → IsOneIsland s
-one_from_length s [] h is = absurd (omega arith)
-one_from_length s (a ∷ []) h is = the_one s a h
-one_from_length s (a ∷ b ∷ islands) h is = absurd (omega arith)
+-- and the other way round: each island of a plane that is one is all of it
+pub whole_if_one : (s : Cells) (start : Cell) (found : List Cell) (island : Cells) → Lives (alive s) start → AreAllJoined (alive s) start found → island ≡ from_list found → IsOneIsland (alive s) → island ≡ s
+whole_if_one s start found island lives are is one =
+    let part = joined_island (alive s) start found lives are in
+    let planes : listed found ≡ alive s = sharing_islands (alive s) (listed found) (alive s) part one start (are.all start (joined_itself (alive s) start lives)) lives in
+    is ∙ same_cells (from_list found) s (alive-from_list found ∙ planes)
 
--- each island of a plane that is one is all of it
-all_of_one : (s t : Plane) → IsOneIsland s → IsIsland s t → t ≡ s
-all_of_one s t one is = sharing_islands s t s is one is.some.0 is.some.1 (is.within is.some.0 is.some.1)
+-- the cell at a place of a set's order lives
+pub place_lives : (s : Cells) (k : ℕ) (c : Cell) → slice_get (in_order s) k ≡ Some c → Lives (alive s) c
+place_lives s k c at = ap (λ (p : Plane). p c.x c.y) (alive-in_order s) ∙ listed_at_place (in_order s) k c at
 
--- and the other way round
-pub length_from_one : (s : Plane) (islands : List Island) → AreIslands s islands → IsOneIsland s → length islands ≡ 1
-length_from_one s [] h one = absurd (h.all one.some.0 one.some.1)
-length_from_one s (a ∷ []) h one = refl
-length_from_one s (a ∷ b ∷ islands) h one = absurd (no_two (same_islands s a b one h.each.0 h.each.1.0))
-  where
-    same_islands : (s : Plane) (a b : Island) → IsOneIsland s → IsNoted s a → IsNoted s b → a ≡ b
-    same_islands s a b one h k = same_noted s a b a.first h k h.first.is (subst (λ (p : Plane). Lives p a.first) (all_of_one s (alive a.cells) one h.is ∙ sym (all_of_one s (alive b.cells) one k.is)) h.first.is)
+-- a plane with no first cell has none, and is no island
+pub none_is_one : (s : Cells) → slice_get (in_order s) 0 ≡ None → IsOneIsland (alive s) → ⊥
+none_is_one s none one =
+    let c = one.some.0 in
+    let there = place_of_listed (in_order s) c.x c.y (sym (ap (λ (p : Plane). p c.x c.y) (alive-in_order s)) ∙ one.some.1) in
+    let within = slice_get_within (in_order s) there.0 c there.1 in
+    elim (cases_lt 0 (length (in_order s))) [
+      | inl some ↦ let here : slice_get (in_order s) 0 ≡ Some (get_or (in_order s) 0 c) = slice_get-get_or (in_order s) 0 c some in cc
+      | inr empty ↦ omega arith
+    ]
 
-    no_two : a ≡ b → ⊥
-    no_two e = let P : Island → Type 0 = λ z. ComesBefore a z in not_before_itself a (subst P (sym e) h.in_order.0.0)
-
--- ---- the cells of a set
-
--- the listed cells of a set are those that live
-pub listed_is_alive : (cells : List Cell) (s : Cells) → cells ≡ in_order s → listed cells ≡ alive s
-listed_is_alive cells s is = ap listed is ∙ sym (alive-in_order s)
-
-pub in_order_range : (n : ℕ) (cells : List Cell) (s : Cells) → cells ≡ in_order s → IsInRange n (alive s) → IsInRange n (listed cells)
-in_order_range n cells s is range = let P : Plane → Type 0 = IsInRange n in subst P (sym (listed_is_alive cells s is)) range
-
-append_none : {X : Type 0} (xs : List X) → xs ++ [] ≡ xs
-append_none [] = refl
-append_none (x ∷ xs) = ap (λ ys. x ∷ ys) (append_none xs)
+-- ---- all of them
 
 -- the list of islands of a set, when each entry was taken
-pub islands_of_set : (cells : List Cell) (s : Cells) (entries all left : List (Rank × Cells)) (islands : List Island) → cells ≡ in_order s → AreRanked (listed cells) (listed cells) entries → all ≡ entries →
-    IsStrictlySortedBy rank_cmp (map (λ (e : Rank × Cells). e.0) entries) → islands ++ map noted left ≡ map noted all → left ≡ [] → AreIslands (alive s) islands
-islands_of_set cells s entries all left islands order ranked is rises taken none =
-    let whole : islands ≡ map noted entries = sym (append_none islands) ∙ ap (λ es. islands ++ map noted es) (sym none) ∙ taken ∙ ap (map noted) is in
-    let P : Plane → Type 0 = λ p. AreIslands p islands in
-    subst P (listed_is_alive cells s order) (ranked_islands_are (listed cells) entries islands ranked rises whole)
+pub islands_of_set : (s : Plane) (entries all left : List (Rank × Cells)) (islands : List Island) → AreRanked s s entries → all ≡ entries → IsStrictlySortedBy rank_cmp (map (λ (e : Rank × Cells). e.0) entries) →
+    islands ++ map noted left ≡ map noted all → left ≡ [] → AreIslands s islands
+islands_of_set s entries all left islands ranked is rises taken none =
+    ranked_islands_are s entries islands ranked rises (sym (append-nil islands) ∙ ap (λ es. islands ++ map noted es) (sym none) ∙ taken ∙ ap (map noted) is)

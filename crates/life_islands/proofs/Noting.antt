@@ -7,12 +7,15 @@ use Rattle.std.specs.Prelude.{ℤ}
 use Rattle.std.specs.declared.cmp.Ordering.{Ordering}
 use Rattle.std.specs.declared.cmp.Ordering.TheVariants.{Less, Equal, Greater}
 use Rattle.std.specs.Cmp.{int_ranked}
+use Rattle.std.proofs.lemmas.Bool.{false_from_ne_true}
 use Rattle.std.proofs.lemmas.Option.{slice_get_within}
+use Rattle.life_plane.specs.NumberLaws.{lt_or_same}
+use Rattle.life_plane.specs.ListLaws.{same_item}
 use Rattle.life_cells.specs.Boxes.{IsInRange}
-use Rattle.life_cells.specs.Cells.{Cells, cell, cell_cmp, alive, from_list}
-use Rattle.life_cells.specs.Laws.{alive-from_list, place_of_listed}
+use Rattle.life_cells.specs.Cells.{Cells, cell, cell_cmp, alive, in_order, from_list}
+use Rattle.life_cells.specs.Laws.{alive-from_list, alive_of_order, place_of_listed}
 use Rattle.life_cells.specs.Listed.{listed}
-use Rattle.life_cells.specs.OrderLaws.{cells_antisymmetric}
+use Rattle.life_cells.specs.OrderLaws.{cells_antisymmetric, tied_first, tied_second}
 use Rattle.life_cells.specs.Same.{same_fields}
 use Rattle.life_cells.specs.declared.cell.Cell.{Cell}
 use Rattle.life_islands.specs.Islands.{IsIsland}
@@ -22,7 +25,7 @@ use Rattle.life_islands.specs.JoinedLaws.{joined_itself, joined_on, joined_back,
 use Rattle.life_islands.specs.Ranks.{IsRankOf, IsRanked, IsUnderOne, AreRanked, AddsIsland}
 use Rattle.life_islands.specs.Search.{Adds, AreAllJoined}
 use Rattle.life_islands.specs.declared.rank.Rank.{Rank}
-use Rattle.life_islands.proofs.Adding.{known_is_listed, IsBefore, listed_right, listed_cases, only_one, all_listed, lt_or_same, same_item}
+use Rattle.life_islands.proofs.Adding.{known_is_listed, IsBefore, listed_right, listed_cases, only_one, all_listed}
 use Rattle.life_plane.specs.Plane.{Plane, same_plane}
 
 -- ---- the order of ranks
@@ -30,16 +33,6 @@ use Rattle.life_plane.specs.Plane.{Plane, same_plane}
 -- by the number, then by the first cell
 abbrev pub rank_cmp : Rank → Rank → Ordering
 rank_cmp a b = ordering_then (int_cmp a.minus_u b.minus_u) (cell_cmp a.first b.first)
-
-tied_first : (a b : Ordering) → ordering_then a b ≡ Equal → a ≡ Equal
-tied_first Less b h = h
-tied_first Equal b h = refl
-tied_first Greater b h = h
-
-tied_second : (a b : Ordering) → ordering_then a b ≡ Equal → b ≡ Equal
-tied_second Less b h = cc
-tied_second Equal b h = h
-tied_second Greater b h = cc
 
 pub same_rank : (a b : Rank) → rank_cmp a b ≡ Equal → a ≡ b
 same_rank a b e =
@@ -112,11 +105,7 @@ named_again start found there = same_plane _ _ (λ x y. by x y (listed found x y
 
     by : (x y : ℤ) (b : Bool) → listed found x y ≡ b → (Lives (listed (start ∷ found)) (cell x y) → Lives (listed found) (cell x y)) → listed (start ∷ found) x y ≡ b
     by x y true is back = listed_right (start ∷ []) found (cell x y) is
-    by x y false is back = not_true (listed (start ∷ found) x y) (λ l. let e = back l in absurd (cc))
-      where
-        not_true : (b : Bool) → (b ≡ true → ⊥) → b ≡ false
-        not_true true h = absurd (h refl)
-        not_true false h = refl
+    by x y false is back = false_from_ne_true (listed (start ∷ found) x y) (λ l. let e = back l in absurd (cc))
 
 -- the cells found are in the range
 pub found_in_range : (n : ℕ) (s : Plane) (start : Cell) (found : List Cell) → Lives s start → IsInRange n s → AreAllJoined s start found → IsInRange n (listed (start ∷ found))
@@ -200,11 +189,14 @@ parting_grows s cells seen seen_after entries after place c was at adds ranked =
     by d p (inl lt) = adds.kept d (was.passed d (p.0, (lt, p.1.1)))
     by d p (inr e) = let same : c ≡ d = same_item at (ap (slice_get cells) (sym e) ∙ p.1.1) in subst (λ z. IsUnderOne after z) same adds.there
 
--- when all cells were passed, all are in islands
-pub parting_ends : (cells seen : List Cell) (entries : List Entry) (place : ℕ) → IsParted (listed cells) cells place seen entries → length cells ≤ place → AreRanked (listed cells) (listed cells) entries
-parting_ends cells seen entries place was long = record {
+-- when all cells of a set were passed, all are in islands
+pub parting_ends : (cells : Cells) (items seen : List Cell) (entries : List Entry) (place : ℕ) → items ≡ in_order cells → IsParted (alive cells) items place seen entries → length items ≤ place →
+    AreRanked (alive cells) (alive cells) entries
+parting_ends cells items seen entries place order was long = record {
   each = was.ranked.each;
-  all = λ c l. let there = place_of_listed cells c.x c.y l in was.passed c (there.0, (omega (arith, slice_get_within cells there.0 c there.1), there.1));
+  all = λ c l.
+      let there = place_of_listed items c.x c.y (ap (λ (p : Plane). p c.x c.y) (alive_of_order items cells order) ∙ l) in
+      was.passed c (there.0, (omega (arith, slice_get_within items there.0 c there.1), there.1));
 }
 
 -- whether the next cell was seen

@@ -2,8 +2,7 @@
 use Rattle.std.proofs.Common.{◌≡◌, ◌⊎◌, ℕ, ◌+◌, ◌<◌, ◌≤◌, Bool, true, false, cond, List, [], ◌∷◌, ◌++◌, length, take, get_or, refl, sym, ap, subst, ◌∙◌, arith, inl, inr, ◌^◌, w64, to_z, of_z}
 use Rattle.std.specs.Prelude.{FitsSigned, ℤ, neg_ℤ, ◌-ℤ◌, ◌≤ℤ◌}
 use Rattle.std.specs.Int.{int_min}
-use Rattle.std.specs.declared.cmp.Ordering.{Ordering}
-use Rattle.std.specs.declared.cmp.Ordering.TheVariants.{Less, Equal, Greater}
+use Rattle.std.specs.declared.cmp.Ordering.TheVariants.{Less}
 use Rattle.std.specs.Ordering.{is_lt, ord_min}
 use Rattle.std.proofs.lemmas.Int.{ints, clamps, to_z-of_z}
 use Rattle.life_cells.specs.Boxes.{IsInRange}
@@ -13,7 +12,7 @@ use Rattle.life_cells.specs.Listed.{listed}
 use Rattle.std.proofs.lemmas.List.{take_more, take_all}
 use Rattle.std.proofs.lemmas.Option.{slice_get-get_or}
 use Rattle.life_cells.specs.Laws.{listed_at_place}
-use Rattle.life_cells.specs.OrderLaws.{cells_total}
+use Rattle.life_cells.specs.OrderLaws.{cells_total, less_from_test}
 use Rattle.life_cells.specs.declared.cell.Cell.{Cell}
 use Rattle.life_islands.specs.Joined.{Lives}
 use Rattle.life_cells.specs.Firsts.{IsFirstLive}
@@ -90,11 +89,6 @@ first_kept cells c first h later = record {
         let same = only_one c d lives in
         let less : is_lt (cell_cmp c first) ≡ true = ap is_lt (ap (λ e. cell_cmp e first) same ∙ before) in cc
 
-is_less : (o : Ordering) → is_lt o ≡ true → o ≡ Less
-is_less Less h = refl
-is_less Equal h = cc
-is_less Greater h = cc
-
 -- ---- at numbers that a call was passed
 
 -- a difference of coordinates, as it is made
@@ -117,7 +111,7 @@ least_is old c least fits_old range is =
 -- a rank with one more cell, which comes before the first
 pub rank_before : (cells : List Cell) (c : Cell) (old : Rank) (m : ℤ) → IsRankOf old (listed cells) → m ≡ int_min old.minus_u (c.y -ℤ c.x) → true ≡ is_lt (cell_cmp c old.first) →
     IsRankOf (rank m c) (listed (cells ++ c ∷ []))
-rank_before cells c old m h is less = record { greatest = greatest_with cells c old.minus_u m h.greatest is; first = first_with cells c old.first h.first (is_less (cell_cmp c old.first) (sym less)) }
+rank_before cells c old m h is less = record { greatest = greatest_with cells c old.minus_u m h.greatest is; first = first_with cells c old.first h.first (less_from_test (cell_cmp c old.first) (sym less)) }
 
 -- and which doesn't
 pub rank_after : (cells : List Cell) (c : Cell) (old : Rank) (m : ℤ) → IsRankOf old (listed cells) → m ≡ int_min old.minus_u (c.y -ℤ c.x) → false ≡ is_lt (cell_cmp c old.first) →

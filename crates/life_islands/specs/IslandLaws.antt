@@ -3,7 +3,9 @@ use Rattle.std.specs.Prelude.{◌≡◌, ◌⊎◌, Bool, true, false, ◌||◌,
 use Rattle.std.proofs.Common.{refl, sym, ap, subst, ◌∙◌, arith, inl, inr}
 use Rattle.std.proofs.lemmas.Int.{ints}
 use Rattle.std.specs.List.{AllByRecursion}
-use Rattle.std.proofs.lemmas.Bool.{or_cases}
+use Rattle.std.proofs.lemmas.Bool.{or_cases, and_parts, not-true, cases_Bool}
+use Rattle.std.specs.Cmp.{both_ways}
+use Rattle.life_cells.specs.BoxLaws.{near_live}
 use Rattle.life_cells.specs.Cells.{cell, alive}
 use Rattle.life_cells.specs.Laws.{same_cells}
 use Rattle.life_cells.specs.declared.cell.Cell.{Cell}
@@ -15,29 +17,12 @@ use Rattle.life_cells.specs.Firsts.{IsFirstLive}
 use Rattle.life_islands.specs.Order.{ComesBefore, AreInOrder}
 use Rattle.life_islands.specs.OrderLaws.{one_first_cell, one_comes_before, not_before_itself}
 use Rattle.life_plane.specs.Plane.{Plane, step, union, IsStill, same_plane}
-use Rattle.life_plane.specs.Apart.{Apart, Within, Live, Dead, live_or_dead, dead_step, step_union}
+use Rattle.life_plane.specs.Apart.{Apart, Within, step_union}
 
 -- ---- tests
 
-same_tests : (a b : Bool) → (a ≡ true → b ≡ true) → (b ≡ true → a ≡ true) → a ≡ b
-same_tests true b h k = sym (h refl)
-same_tests false true h k = k refl
-same_tests false false h k = refl
-
-and_both : (a b : Bool) → (a && b) ≡ true → (a ≡ true) × (b ≡ true)
-and_both true b h = (refl, h)
-and_both false b h = cc
-
 both_and : (a b : Bool) → a ≡ true → b ≡ false → (a && not b) ≡ true
 both_and a b h k = rw (h, k) refl
-
-not_false : (a : Bool) → not a ≡ true → a ≡ false
-not_false true h = cc
-not_false false h = refl
-
-true_or_false : (b : Bool) → (b ≡ true) ⊎ (b ≡ false)
-true_or_false true = inl refl
-true_or_false false = inr refl
 
 -- ---- one island
 
@@ -49,20 +34,20 @@ island_takes s t h a b lives other near = h.whole a b lives (joined_step s a b (
 pub island_apart : (s t : Plane) → IsIsland s t → Apart t (rest_of s t)
 island_apart s t h = record {
   far = λ x y a b lives other near.
-      let parts = and_both (s a b) (not (t a b)) other in
+      let parts = and_parts (s a b) (not (t a b)) other in
       let in_it : t a b ≡ true = island_takes s t h (cell x y) (cell a b) lives parts.0 near in
-      let out : t a b ≡ false = not_false (t a b) parts.1 in absurd (cc);
+      let out : t a b ≡ false = not-true (t a b) parts.1 in absurd (cc);
 }
 
 -- two islands that share a cell are one
 pub sharing_islands : (s t r : Plane) → IsIsland s t → IsIsland s r → (c : Cell) → Lives t c → Lives r c → t ≡ r
-sharing_islands s t r h k c in_t in_r = same_plane t r (λ x y. same_tests (t x y) (r x y)
+sharing_islands s t r h k c in_t in_r = same_plane t r (λ x y. both_ways (t x y) (r x y)
     (λ l. k.whole c (cell x y) in_r (h.joined c (cell x y) in_t l))
     (λ l. h.whole c (cell x y) in_t (k.joined c (cell x y) in_r l)))
 
 -- two islands of a set are one, or they are apart
 pub same_or_apart : (s t r : Plane) → IsIsland s t → IsIsland s r → (t ≡ r) ⊎ Apart t r
-same_or_apart s t r h k = by (true_or_false (r h.some.0.x h.some.0.y))
+same_or_apart s t r h k = by (cases_Bool (r h.some.0.x h.some.0.y))
   where
     by : (r h.some.0.x h.some.0.y ≡ true) ⊎ (r h.some.0.x h.some.0.y ≡ false) → (t ≡ r) ⊎ Apart t r
     by (inl in_r) = inl (sharing_islands s t r h k h.some.0 h.some.1 in_r)
@@ -73,13 +58,6 @@ same_or_apart s t r h k = by (true_or_false (r h.some.0.x h.some.0.y))
     })
 
 -- ---- still islands
-
-near_live : (s : Plane) (x y : ℤ) → step s x y ≡ true → Live s x y
-near_live s x y h = from (live_or_dead s x y)
-  where
-    from : (Live s x y) ⊎ (Dead s x y) → Live s x y
-    from (inl l) = l
-    from (inr d) = let e = dead_step s x y d in absurd (cc)
 
 -- a plane is an island of it and the rest
 pub island_and_rest : (s t : Plane) → IsIsland s t → s ≡ union t (rest_of s t)
@@ -99,7 +77,7 @@ turned x y a b w = record { right = w.left; left = w.right; below = w.above; abo
 
 -- each island of a still set is still
 pub island_still : (s t : Plane) → IsStill s → IsIsland s t → IsStill t
-island_still s t still h = same_plane (step t) t (λ x y. by x y (true_or_false (t x y)))
+island_still s t still h = same_plane (step t) t (λ x y. by x y (cases_Bool (t x y)))
   where
     rest : Plane
     rest = rest_of s t
@@ -128,7 +106,7 @@ island_still s t still h = same_plane (step t) t (λ x y. by x y (true_or_false 
 
     by : (x y : ℤ) → (t x y ≡ true) ⊎ (t x y ≡ false) → step t x y ≡ t x y
     by x y (inl lives) = stays x y lives (or_cases (step t x y) (step rest x y) (steps_at x y ∙ h.within (cell x y) lives)) ∙ sym lives
-    by x y (inr dead) = elim (true_or_false (step t x y)) [ inl next ↦ absurd (not_born x y dead next) | inr none ↦ none ∙ sym dead ]
+    by x y (inr dead) = elim (cases_Bool (step t x y)) [ inl next ↦ absurd (not_born x y dead next) | inr none ↦ none ∙ sym dead ]
 
 -- ---- lists of islands
 

@@ -4,6 +4,7 @@ pub mod JoinedLaws
 pub mod Islands
 pub mod IslandLaws
 pub mod MovedIslands
+pub mod MovedIslandLaws
 pub mod Order
 pub mod OrderLaws
 pub mod Shapes

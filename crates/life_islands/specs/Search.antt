@@ -1,15 +1,10 @@
 -- A search from one cell for all that are joined with it.
-use Rattle.std.specs.Prelude.{◌≡◌, ℤ, ◌+ℤ◌, List, ◌++◌}
+use Rattle.std.specs.Prelude.{◌≡◌, List, ◌++◌}
 use Rattle.std.specs.List.{AllByRecursion}
 use Rattle.life_cells.specs.Listed.{listed}
 use Rattle.life_cells.specs.declared.cell.Cell.{Cell}
-use Rattle.life_islands.specs.Joined.{Lives, Steps, AreJoined}
+use Rattle.life_islands.specs.Joined.{Lives, AreJoined}
 use Rattle.life_plane.specs.Plane.{Plane}
-
--- a step leads from the one cell to the other, which is dy rows below
-pub record StepsDown (s : Plane) (from : Cell) (dy : ℤ) (to : Cell) : Type 0 where
-  pub steps : Steps s from to
-  pub row : to.y ≡ from.y +ℤ dy
 
 -- some cells with this property went behind the others, and now all with it are there
 pub record Adds (P : Cell → Type 0) (before after : List Cell) : Type 0 where

@@ -2,7 +2,7 @@
 
 ghost use Rattle.std.specs.Prelude.{◌↔◌, ◌^◌, IsTrue, IfOk, OnOk};
 ghost use Rattle.life_cells.specs.Boxes.{IsInRange};
-ghost use Rattle.life_cells.specs.Cells.{alive, IsRising};
+ghost use Rattle.life_cells.specs.Cells.{alive};
 ghost use Rattle.life_cells.specs.Listed.{listed};
 ghost use Rattle.life_islands.specs.Islands.{AreIslands, IsOneIsland};
 ghost use Rattle.life_islands.specs.Joined.{Lives};
@@ -26,7 +26,7 @@ pub fn islands(alloc: Global, cells: &CellSet) -> Result<Vec<Island>, NoMemory>
     requires { IsInRange (2 ^ 60) (alive cells.now) }
     ensures { IfOk result (λ islands. AreIslands (alive cells.now) islands.items) }
 {
-    let ranked = ranked_islands(alloc, cells.cells())?;
+    let ranked = ranked_islands(alloc, cells)?;
     let mut islands = Vec::new(alloc);
     for (rank, cells) in ranked {
         let first = rank.first;
@@ -39,24 +39,26 @@ pub fn islands(alloc: Global, cells: &CellSet) -> Result<Vec<Island>, NoMemory>
 ///
 /// # Errors
 ///
-/// [`NoMemory`] where there was no memory for the islands.
+/// [`NoMemory`] where there was no memory for the search.
 pub fn is_one_island(alloc: Global, cells: &CellSet) -> Result<bool, NoMemory>
-    requires { IsInRange (2 ^ 60) (alive cells.now) }
     ensures { IfOk result (λ one. IsTrue one ↔ IsOneIsland (alive cells.now)) }
 {
-    let islands = islands(alloc, cells)?;
-    Ok(islands.len() == 1)
+    let Some(first) = cells.get(0) else {
+        return Ok(false);
+    };
+    let found = joined_with(alloc, cells, first)?;
+    let island = CellSet::from_cells(alloc, found.as_slice())?;
+    Ok(island.equal(cells))
 }
 
-/// The islands of the listed cells, each under its rank.
-fn ranked_islands(alloc: Global, cells: &[Cell]) -> Result<BTreeMap<Rank, CellSet>, NoMemory>
-    requires rises { IsRising cells.now }
-    requires range { IsInRange (2 ^ 60) (listed cells.now) }
-    ensures { IfOk result (λ ranked. AreRanked (listed cells.now) (listed cells.now) ranked.entries) }
+/// The islands of the set, each under its rank.
+fn ranked_islands(alloc: Global, cells: &CellSet) -> Result<BTreeMap<Rank, CellSet>, NoMemory>
+    requires { IsInRange (2 ^ 60) (alive cells.now) }
+    ensures { IfOk result (λ ranked. AreRanked (alive cells.now) (alive cells.now) ranked.entries) }
 {
     let mut ranked = BTreeMap::new(alloc);
     let mut seen = IndexSet::new(alloc);
-    for cell in cells {
+    for cell in cells.cells() {
         if !seen.contains(cell) {
             add_island(alloc, cells, *cell, &mut ranked, &mut seen)?;
         }
@@ -67,17 +69,16 @@ fn ranked_islands(alloc: Global, cells: &[Cell]) -> Result<BTreeMap<Rank, CellSe
 /// Adds the island that has this cell, and notes that its cells were seen.
 fn add_island(
     alloc: Global,
-    cells: &[Cell],
+    cells: &CellSet,
     start: Cell,
     ranked: &mut BTreeMap<Rank, CellSet>,
     seen: &mut IndexSet<Cell>,
 ) -> Result<(), NoMemory>
-    requires rises { IsRising cells.now }
-    requires range { IsInRange (2 ^ 60) (listed cells.now) }
-    requires lives { Lives (listed cells.now) start }
-    requires ranked { AreRanked (listed cells.now) (listed seen.old.keys) ranked.old.entries }
+    requires range { IsInRange (2 ^ 60) (alive cells.now) }
+    requires lives { Lives (alive cells.now) start }
+    requires ranked { AreRanked (alive cells.now) (listed seen.old.keys) ranked.old.entries }
     ensures adds { OnOk result (AddsIsland start ranked.old.entries ranked.new.entries) }
-    ensures ranked { OnOk result (AreRanked (listed cells.now) (listed seen.new.keys) ranked.new.entries) }
+    ensures ranked { OnOk result (AreRanked (alive cells.now) (listed seen.new.keys) ranked.new.entries) }
 {
     let found = joined_with(alloc, cells, start)?;
     add_all(seen, found.as_slice())?;

@@ -7,14 +7,13 @@ ghost use Rattle.life_islands.specs.Shapes.{IsShapeOf};
 
 use crate::shape::Shape;
 use life_cells::{Cell, CellSet, NoMemory};
-use std::alloc::Global;
 
 /// The shape of a set of cells, and the top left of the least box that holds them: the set is the shape moved there.
 ///
 /// # Errors
 ///
 /// [`NoMemory`] where there was no memory for the shape.
-pub fn shape_of(_alloc: Global, cells: &CellSet) -> Result<(Shape, Cell), NoMemory>
+pub fn shape_of(cells: &CellSet) -> Result<(Shape, Cell), NoMemory>
     requires some { cells.now ≢ empty }
     requires range { IsInRange (2 ^ 60) (alive cells.now) }
     ensures { IfOk result (λ r. IsShapeOf (alive cells.now) (alive r.0) r.1) }

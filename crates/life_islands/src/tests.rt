@@ -111,7 +111,7 @@ fn shapes_have_no_place(rt: HostRuntime) -> Result<(), Fail> {
     ] {
         let set = blocks(alloc, &places)?;
         assert!(rt; !set.is_empty());
-        let (shape, corner) = shape_of(alloc, &set)?;
+        let (shape, corner) = shape_of(&set)?;
         assert_eq!(rt; corner, Cell::new(x, y));
         assert_eq!(rt; shape.cells().equal(&block), places[0] == places[1]);
         shapes.insert(shape)?;

@@ -22,7 +22,7 @@ fn add_number(
     requires range { IsInRange (2 ^ 60) (alive product.now) }
     ensures { OnOk result (AddsNumber (alive product.now) number index.old.entries index.new.entries) }
 {
-    let (shape, _) = shape_of(alloc, product)?;
+    let (shape, _) = shape_of(product)?;
     let mut numbers = match index.swap_remove(&shape) {
         Some(numbers) => numbers,
         None => Vec::new(alloc),

@@ -88,6 +88,6 @@ pub(crate) fn shown(alloc: Global, product: &CellSet) -> Result<Option<(Shape, C
     if product.is_empty() {
         return Ok(None);
     }
-    let shape = shape_of(alloc, product)?;
+    let shape = shape_of(product)?;
     Ok(Some(shape))
 }
