@@ -6,7 +6,6 @@ pub mod Starting
 pub mod Hitting
 pub mod OneHit
 pub mod Earlier
-pub mod Nearness
 pub mod Ends
 pub mod InTurn
 pub mod Missing

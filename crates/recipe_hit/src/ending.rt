@@ -10,7 +10,6 @@ ghost use Rattle.recipe_hit.specs.Sound.{left_hand, IsWhole};
 ghost use Rattle.recipe_hit.specs.Checked.{IsShown};
 ghost use Rattle.recipe_hit.specs.SalvoRefusals.{IsFirstNear, EndIsRefused, EndsWell};
 
-use crate::near::is_close;
 use crate::refusal::SalvoRefusal;
 use life_cells::{Cell, CellSet, NoMemory};
 use life_islands::{Shape, is_one_island, shape_of};
@@ -32,9 +31,8 @@ pub(crate) fn hand_at(
     }
 }
 
-// Whether a product is one island, or nothing.
+/// Whether a product is one island, or nothing.
 fn is_whole(alloc: Global, product: &CellSet) -> Result<bool, NoMemory>
-    requires { IsPlaced (alive product.now) }
     ensures { IfOk result (λ whole. IsTrue whole ↔ IsWhole (alive product.now)) }
 {
     if product.is_empty() {
@@ -43,13 +41,12 @@ fn is_whole(alloc: Global, product: &CellSet) -> Result<bool, NoMemory>
     is_one_island(alloc, product)
 }
 
-// The first cell of a product within distance 2 of the hand.
+/// The first cell of a product within distance 2 of the hand.
 fn first_near(product: &CellSet, hand: &CellSet) -> Option<Cell>
-    requires { IsPlaced (alive product.now) }
     ensures { MatchOption result (Apart (alive product.now) (alive hand.now)) (IsFirstNear (alive product.now) (alive hand.now)) }
 {
     for cell in product.cells() {
-        if is_close(hand, *cell) {
+        if hand.has_close(*cell) {
             return Some(*cell);
         }
     }
@@ -63,7 +60,6 @@ pub(crate) fn test_end(
     product: &CellSet,
     hand: &CellSet,
 ) -> Result<(), SalvoRefusal>
-    requires { IsPlaced (alive product.now) }
     ensures well { IfOk result (λ _. EndsWell (alive last.now) (alive product.now) (alive hand.now)) }
     ensures refusal { IfErr result (λ e. EndIsRefused (alive last.now) (alive product.now) (alive hand.now) e) }
 {
@@ -81,7 +77,7 @@ pub(crate) fn test_end(
 }
 
 /// The shape of a product and the top left of its box; None exactly where it has no cell.
-pub(crate) fn shown(alloc: Global, product: &CellSet) -> Result<Option<(Shape, Cell)>, NoMemory>
+pub(crate) fn shown(product: &CellSet) -> Result<Option<(Shape, Cell)>, NoMemory>
     requires { IsPlaced (alive product.now) }
     ensures { IfOk result (λ shown. IsShown product.now shown) }
 {

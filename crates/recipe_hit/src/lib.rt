@@ -10,7 +10,6 @@ pub mod hand;
 pub mod hit;
 mod in_turn;
 pub mod laws;
-mod near;
 pub mod refusal;
 mod rest;
 mod soundness;

@@ -46,6 +46,6 @@ pub(crate) fn test_salvo<L: Ledger>(
     let hits = strike_in_turn(alloc, hand, salvo.lanes.items(), steps)?;
     let left = hand_at(alloc, hand, salvo.hand)?;
     test_end(alloc, left_by(hand, &hits), &salvo.product, &left)?;
-    let product = shown(alloc, &salvo.product)?;
+    let product = shown(&salvo.product)?;
     Ok(Tested { hits, product })
 }

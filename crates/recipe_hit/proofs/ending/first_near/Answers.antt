@@ -9,17 +9,11 @@ use Rattle.recipe_hit.proofs.Ends.{none_near}
 use Rattle.recipe_hit.proofs.Comparisons.{not_if_false}
 use Rattle.recipe_hit.proofs.ending.first_near.Goals as goal
 
-pub is_close-requires-clause-x : goal.is_close-requires-clause-x
-is_close-requires-clause-x c = c.requires.x _ _ (live_at c.args.product.now _ c.cells-cell-items.ensures.order c.loop-cell.cell-index _ c.loop-cell-test.true)
-
-pub is_close-requires-clause-y : goal.is_close-requires-clause-y
-is_close-requires-clause-y c = c.requires.y _ _ (live_at c.args.product.now _ c.cells-cell-items.ensures.order c.loop-cell.cell-index _ c.loop-cell-test.true)
-
-pub returns-then-is_close : goal.returns-then-is_close
-returns-then-is_close c =
+pub returns-then-has_close : goal.returns-then-has_close
+returns-then-has_close c =
     let s = c.args.product.now in
     record {
-      is = (live_at s _ c.cells-cell-items.ensures.order c.loop-cell.cell-index _ c.loop-cell-test.true, c.is_close.ensures.0 c.if-is_close.true);
+      is = (live_at s _ c.cells-cell-items.ensures.order c.loop-cell.cell-index _ c.loop-cell-test.true, c.has_close.ensures.0 c.if-has_close.true);
       none_before = λ x y p. first_place (in_order s) (rising-in_order s) (Close (alive c.args.hand.now)) c.loop-cell.cell-index _
           (at_place s _ c.cells-cell-items.ensures.order c.loop-cell.cell-index _ c.loop-cell-test.true)
           c.loop-cell.invariant x y (sym (ap (λ (q : Plane). q x y) (alive-in_order s)) ∙ p.0) p.1;
@@ -28,7 +22,7 @@ returns-then-is_close c =
 pub loop-cell-preserved : goal.loop-cell-preserved
 loop-cell-preserved c =
     each_more _ (λ d. Close (alive c.args.hand.now) d.x d.y → ⊥) c.loop-cell.cell-index _
-    (at_place c.args.product.now _ c.cells-cell-items.ensures.order c.loop-cell.cell-index _ c.loop-cell-test.true) c.loop-cell.invariant (not_if_false _ _ c.if-is_close.false c.is_close.ensures)
+    (at_place c.args.product.now _ c.cells-cell-items.ensures.order c.loop-cell.cell-index _ c.loop-cell-test.true) c.loop-cell.invariant (not_if_false _ _ c.if-has_close.false c.has_close.ensures)
 
 pub returns : goal.returns
 returns c = none_near c.args.product.now (alive c.args.hand.now) c.loop-cell.cell-index (omega (arith, ap length c.cells-cell-items.ensures.order)) c.loop-cell.invariant
