@@ -3,6 +3,7 @@ use Rattle.std.proofs.Common.{◌≡◌, ◌↔◌, IsTrue, ◌⊎◌, subst, Bo
 use Rattle.std.specs.Prelude.{ℤ, pos, ◌+ℤ◌, ◌≤ℤ◌, ◌<ℤ◌, ◌||◌}
 use Rattle.std.specs.Int.{int_min, int_max}
 use Rattle.std.proofs.lemmas.Int.{ints, clamps}
+use Rattle.life_plane.specs.NumberLaws.{cases_below}
 use Rattle.life_plane.specs.Plane.{Plane}
 use Rattle.life_plane.specs.Apart.{Apart}
 use Rattle.life_cells.specs.Boxes.{Holds}
@@ -42,12 +43,9 @@ before_is_far a b h = record { far = λ x p i j up down. let f = j.from in let t
 pub after_is_far : (a b : Span) → (b.high +ℤ pos 3) ≤ℤ a.low → AreFarSpans a b
 after_is_far a b h = record { far = λ x p i j up down. let f = i.from in let t = j.to in omega (arith, ints) }
 
-either_way : (m n : ℤ) → (m <ℤ n) ⊎ (n ≤ℤ m)
-either_way m n = grind (arith, ints)
-
 -- spans that are not far are near
 spans_decide : (a b : Span) → AreFarSpans a b ⊎ AreNearSpans a b
-spans_decide a b = by_a (either_way a.high a.low) (either_way b.high b.low) (either_way b.low (a.high +ℤ pos 3)) (either_way a.low (b.high +ℤ pos 3))
+spans_decide a b = by_a (cases_below a.high a.low) (cases_below b.high b.low) (cases_below b.low (a.high +ℤ pos 3)) (cases_below a.low (b.high +ℤ pos 3))
   where
     by_a : (a.high <ℤ a.low) ⊎ (a.low ≤ℤ a.high) → (b.high <ℤ b.low) ⊎ (b.low ≤ℤ b.high) → (b.low <ℤ (a.high +ℤ pos 3)) ⊎ ((a.high +ℤ pos 3) ≤ℤ b.low) → (a.low <ℤ (b.high +ℤ pos 3)) ⊎ ((b.high +ℤ pos 3) ≤ℤ a.low) → AreFarSpans a b ⊎ AreNearSpans a b
     by_a (inl h) eb eab eba = inl (empty_is_far a b h)
@@ -71,10 +69,10 @@ spans_test a b false false false false h1 h2 h3 h4 =
     not_both h = cc
 
     not_less : {m n : ℤ} → (IsTrue false ↔ (m <ℤ n)) → n ≤ℤ m
-    not_less {m} {n} h = elim (either_way m n) [ inl k ↦ absurd (not_both (h.1 k)) | inr k ↦ k ]
+    not_less {m} {n} h = elim (cases_below m n) [ inl k ↦ absurd (not_both (h.1 k)) | inr k ↦ k ]
 
     not_most : {m n : ℤ} → (IsTrue false ↔ (m ≤ℤ n)) → n <ℤ m
-    not_most {m} {n} h = elim (either_way n m) [ inl k ↦ k | inr k ↦ absurd (not_both (h.1 k)) ]
+    not_most {m} {n} h = elim (cases_below n m) [ inl k ↦ k | inr k ↦ absurd (not_both (h.1 k)) ]
 
 -- spans apart by their columns or by their rows keep boxes apart
 pub far_columns : (a b : Bounds) → AreFarSpans (record { low = a.left; high = a.right }) (record { low = b.left; high = b.right }) → AreFarBoxes a b

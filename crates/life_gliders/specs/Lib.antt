@@ -3,4 +3,4 @@ pub mod Glider
 pub mod Listing
 pub mod Beyond
 pub mod Starts
-pub mod OneGlider
+pub mod GliderLaws

@@ -2,7 +2,7 @@ use Rattle.std.proofs.Common.{◌↔◌, IsTrue, false, refl, subst, w64, to_z, 
 use Rattle.std.proofs.lemmas.Int.{to_z-of_z}
 use Rattle.life_plane.specs.Strips.{Each, UAtLeast}
 use Rattle.life_cells.specs.Cells.{alive}
-use Rattle.life_cone.proofs.Looking.{place_in_range, each_more, each_of_set, not_each}
+use Rattle.life_cone.proofs.EachCell.{place_in_range, each_more, each_of_set, not_each}
 use Rattle.life_cone.proofs.diagonals.all_at_least.Goals as goal
 
 pub is_at_least-requires : goal.is_at_least-requires

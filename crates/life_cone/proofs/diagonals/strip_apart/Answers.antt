@@ -3,7 +3,7 @@ use Rattle.std.proofs.lemmas.Int.{to_z-of_z}
 use Rattle.life_plane.specs.Strips.{Each}
 use Rattle.life_cells.specs.Cells.{alive}
 use Rattle.life_cone.specs.Sides.{IsBesideStrip}
-use Rattle.life_cone.proofs.Looking.{place_in_range, each_more, each_of_set, not_each}
+use Rattle.life_cone.proofs.EachCell.{place_in_range, each_more, each_of_set, not_each}
 use Rattle.life_cone.proofs.Sides.{strip_ends, beside_apart}
 use Rattle.life_cone.proofs.diagonals.strip_apart.Goals as goal
 

@@ -3,7 +3,7 @@ use Rattle.std.proofs.lemmas.Int.{to_z-of_z}
 use Rattle.life_cells.specs.Cells.{alive}
 use Rattle.life_cells.specs.Listed.{listed}
 use Rattle.life_gliders.specs.Beyond.{beyond}
-use Rattle.life_gliders.proofs.Past.{test_only, test_none}
+use Rattle.life_gliders.proofs.PastWall.{test_only, test_none}
 use Rattle.life_gliders.proofs.beyond.are_beyond.Goals as goal
 
 pub returns-then-has_all : goal.returns-then-has_all

@@ -3,12 +3,13 @@ use Rattle.std.proofs.lemmas.Int.{to_z-of_z}
 use Rattle.life_plane.specs.Plane.{nothing}
 use Rattle.life_cells.specs.Cells.{cell, alive}
 use Rattle.life_gliders.specs.Beyond.{beyond, IsFirstLive}
-use Rattle.life_gliders.proofs.Looking.{live_in_range, place_lives}
-use Rattle.life_gliders.proofs.Past.{first_past, none_past, none_more}
+use Rattle.life_gliders.proofs.EachCell.{live_in_range}
+use Rattle.life_cells.specs.PlaceLaws.{live_at}
+use Rattle.life_gliders.proofs.PastWall.{first_past, none_past, none_more}
 use Rattle.life_gliders.proofs.beyond.first_beyond.Goals as goal
 
 pub is_beyond-requires-clause-cell : goal.is_beyond-requires-clause-cell
-is_beyond-requires-clause-cell c = live_in_range _ _ _ c.requires.cells (place_lives _ c.args.cells.now c.loop-cell.cell-index _ c.cells-cell-items.ensures.order c.loop-cell-test.true)
+is_beyond-requires-clause-cell c = live_in_range _ _ _ c.requires.cells (live_at c.args.cells.now _ c.cells-cell-items.ensures.order c.loop-cell.cell-index _ c.loop-cell-test.true)
 
 pub returns-then-is_beyond-clause-some : goal.returns-then-is_beyond-clause-some
 returns-then-is_beyond-clause-some c =
@@ -16,7 +17,7 @@ returns-then-is_beyond-clause-some c =
     (first_past (to_z w64 (of_z w64 c.args.wall)) _ c.args.cells.now c.loop-cell.cell-index _ c.cells-cell-items.ensures.order c.cells-cell-items.ensures.rising c.loop-cell-test.true c.loop-cell.invariant (sym c.is_beyond.ensures ∙ c.if-is_beyond.true))
 
 pub returns-then-is_beyond-clause-range : goal.returns-then-is_beyond-clause-range
-returns-then-is_beyond-clause-range c = live_in_range _ _ _ c.requires.cells (place_lives _ c.args.cells.now c.loop-cell.cell-index _ c.cells-cell-items.ensures.order c.loop-cell-test.true)
+returns-then-is_beyond-clause-range c = live_in_range _ _ _ c.requires.cells (live_at c.args.cells.now _ c.cells-cell-items.ensures.order c.loop-cell.cell-index _ c.loop-cell-test.true)
 
 pub loop-cell-preserved : goal.loop-cell-preserved
 loop-cell-preserved c = none_more (to_z w64 (of_z w64 c.args.wall)) _ c.loop-cell.cell-index _ _ c.loop-cell-test.true c.loop-cell.invariant c.is_beyond.ensures c.if-is_beyond.false

@@ -1,5 +1,5 @@
 use Rattle.std.specs.Prelude.{◌≡◌, true, int_le, pos, ◌+ℤ◌, ◌-ℤ◌}
-use Rattle.life_gliders.proofs.Looking.{EachBefore}
+use Rattle.life_gliders.proofs.EachCell.{EachBefore}
 use Rattle.life_gliders.proofs.beyond.first_beyond.Given as goal
 
 abbrev pub invariant-loop-cell : goal.invariant-loop-cell

@@ -3,7 +3,7 @@ use Rattle.std.proofs.lemmas.Int.{to_z-of_z}
 use Rattle.life_cells.specs.Cells.{alive}
 use Rattle.life_cells.specs.Listed.{listed}
 use Rattle.life_gliders.specs.Beyond.{beyond, IsPartOf}
-use Rattle.life_gliders.proofs.Past.{all_past}
+use Rattle.life_gliders.proofs.PastWall.{all_past}
 use Rattle.life_gliders.proofs.beyond.has_all.Goals as goal
 
 pub returns : goal.returns

@@ -1,7 +1,7 @@
 use Rattle.std.specs.Prelude.{◌≡◌, true}
 use Rattle.life_cells.specs.Cells.{alive}
 use Rattle.life_gliders.specs.Beyond.{beyond}
-use Rattle.life_gliders.proofs.Looking.{EachBefore}
+use Rattle.life_gliders.proofs.EachCell.{EachBefore}
 use Rattle.life_gliders.proofs.beyond.has_all.Given as goal
 
 abbrev pub invariant-loop-cell : goal.invariant-loop-cell

@@ -3,13 +3,14 @@ use Rattle.std.proofs.lemmas.Int.{to_z-of_z}
 use Rattle.life_cells.specs.Cells.{alive}
 use Rattle.life_cells.specs.Listed.{listed}
 use Rattle.life_gliders.specs.Beyond.{beyond, IsPartOf}
-use Rattle.life_gliders.proofs.Looking.{live_in_range, place_lives}
-use Rattle.life_gliders.proofs.Past.{only_listed, listed_more, not_past_more, not_only}
+use Rattle.life_gliders.proofs.EachCell.{live_in_range}
+use Rattle.life_cells.specs.PlaceLaws.{live_at}
+use Rattle.life_gliders.proofs.PastWall.{only_listed, listed_more, not_past_more, not_only}
 use Rattle.life_gliders.proofs.beyond.has_only.Goals as goal
 use Rattle.life_gliders.proofs.beyond.has_only.Goals.{else-is_beyond-via-then-is_beyond+else-not-has_cell, else-is_beyond-via-else-is_beyond}
 
 pub is_beyond-requires-clause-cell : goal.is_beyond-requires-clause-cell
-is_beyond-requires-clause-cell c = live_in_range _ _ _ c.requires.cells (place_lives _ c.args.cells.now c.loop-cell.cell-index _ c.cells-cell-items.ensures.order c.loop-cell-test.true)
+is_beyond-requires-clause-cell c = live_in_range _ _ _ c.requires.cells (live_at c.args.cells.now _ c.cells-cell-items.ensures.order c.loop-cell.cell-index _ c.loop-cell-test.true)
 
 pub returns-then-not-has_cell : goal.returns-then-not-has_cell
 returns-then-not-has_cell c =

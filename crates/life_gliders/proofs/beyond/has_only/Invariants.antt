@@ -1,6 +1,6 @@
 use Rattle.std.specs.Prelude.{◌≡◌, true, int_le, pos, ◌+ℤ◌, ◌-ℤ◌}
 use Rattle.life_cells.specs.Listed.{listed}
-use Rattle.life_gliders.proofs.Looking.{EachBefore}
+use Rattle.life_gliders.proofs.EachCell.{EachBefore}
 use Rattle.life_gliders.proofs.beyond.has_only.Given as goal
 
 abbrev pub invariant-loop-cell : goal.invariant-loop-cell

@@ -5,7 +5,7 @@ use Rattle.life_plane.specs.Salvo.{salvo_glider}
 use Rattle.life_cells.specs.Cells.{alive}
 use Rattle.life_gliders.specs.Beyond.{beyond}
 use Rattle.life_gliders.specs.Starts.{StartsAt}
-use Rattle.life_gliders.proofs.Starting.{none_is_no_glider, none_of_four, not_glider, not_this_phase}
+use Rattle.life_gliders.proofs.FirstCells.{none_is_no_glider, none_of_four, not_glider, not_this_phase}
 use Rattle.life_gliders.proofs.finding.find_salvo_glider.Goals as goal
 
 pub returns-in_default-clause-none : goal.returns-in_default-clause-none

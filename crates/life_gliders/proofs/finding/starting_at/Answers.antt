@@ -1,6 +1,6 @@
 use Rattle.std.proofs.Common.{ℤ, ◌-ℤ◌, pos, arith, w64, to_z, of_z}
 use Rattle.std.proofs.lemmas.Int.{ints}
-use Rattle.life_gliders.proofs.Starting.{starts}
+use Rattle.life_gliders.proofs.FirstCells.{starts}
 use Rattle.life_gliders.proofs.finding.starting_at.Goals as goal
 
 pub overflow_sub-lane-2 : goal.overflow_sub-lane-2

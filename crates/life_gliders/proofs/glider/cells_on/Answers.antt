@@ -4,7 +4,7 @@ use Rattle.std.specs.Prelude.{unsigned_abs}
 use Rattle.std.proofs.lemmas.Int.{to_z-of_z}
 use Rattle.life_cells.specs.Listed.{listed}
 use Rattle.life_gliders.specs.Listing.{placed, quarters}
-use Rattle.life_gliders.proofs.Placing.{five_placed, listed-glider_list}
+use Rattle.life_gliders.proofs.PlacedCells.{five_placed, listed-glider_list}
 use Rattle.life_gliders.proofs.glider.cells_on.Goals as goal
 use Rattle.life_plane.specs.Tracks.{phase}
 use Rattle.std.proofs.Common.{map}

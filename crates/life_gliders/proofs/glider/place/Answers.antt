@@ -3,7 +3,7 @@ use Rattle.std.proofs.lemmas.Int.{ints}
 use Rattle.life_gliders.specs.Glider.{IsLaneAtMost}
 use Rattle.life_gliders.specs.declared.track.Track.TheVariants.{Salvo}
 use Rattle.life_gliders.specs.Listing.{placed, cell_at_rest}
-use Rattle.life_gliders.proofs.Placing.{placed_on_lane}
+use Rattle.life_gliders.proofs.PlacedCells.{placed_on_lane}
 use Rattle.life_gliders.proofs.glider.place.Goals as goal
 
 pub returns-in-Salvo : goal.returns-in-Salvo

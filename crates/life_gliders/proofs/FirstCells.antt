@@ -4,9 +4,9 @@ use Rattle.std.specs.Prelude.{◌||◌, ◌&&◌, int_le, int_lt}
 use Rattle.std.specs.Ordering.{int_eq}
 use Rattle.std.specs.Cmp.{signed_Decides}
 use Rattle.std.specs.declared.cmp.Ordering.TheVariants.{Less}
-use lib.Dec.{T}
 use Rattle.std.proofs.lemmas.Int.{ints}
 use Rattle.std.proofs.lemmas.Bool.{or_cases, and_parts}
+use Rattle.life_plane.specs.NumberLaws.{le_from_test, lt_from_test}
 use Rattle.life_plane.specs.Plane.{Plane, nothing}
 use Rattle.life_plane.specs.Finite.{plane_of, each_cell, each_live}
 use Rattle.life_plane.specs.Tracks.{stream_glider, stream_glider_at, quartered, Quartered, phase}
@@ -17,12 +17,6 @@ use Rattle.life_cells.specs.OrderLaws.{before_by_row, before_in_row}
 use Rattle.life_gliders.specs.Beyond.{IsFirstLive}
 use Rattle.life_gliders.specs.Listing.{cell_at_rest}
 use Rattle.life_gliders.specs.Starts.{first_of_phase, StartsAt}
-
-at_most : {a b : ℤ} → int_le a b ≡ true → a ≤ℤ b
-at_most h = record { le = subst T (sym h) tt }
-
-less : {a b : ℤ} → int_lt a b ≡ true → a <ℤ b
-less h = record { lt = subst T (sym h) tt }
 
 -- ---- the lowest cell of a phase, and the leftmost of these
 
@@ -49,8 +43,8 @@ record IsAfterFirst (n : ℕ) (x y : ℤ) : Type 0 where
 lies_after_first : (n : ℕ) (x y : ℤ) → plane_of (phase n) x y ≡ true → IsAfterFirst n x y
 lies_after_first n x y live = record {
   is = elim (or_cases _ _ (each_live (is_after_first (first_of_phase n)) (phase n) (after_first n) x y live)) [
-    | inl h ↦ inl (less h)
-    | inr h ↦ let both = and_parts _ _ h in inr ((signed_Decides y (first_of_phase n).1).0 both.0, at_most both.1)
+    | inl h ↦ inl (lt_from_test h)
+    | inr h ↦ let both = and_parts _ _ h in inr ((signed_Decides y (first_of_phase n).1).0 both.0, le_from_test both.1)
   ];
 }
 

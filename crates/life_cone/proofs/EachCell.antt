@@ -1,33 +1,24 @@
 -- Cells of a set, looked at one by one.
-use Rattle.std.proofs.Common.{◌≡◌, ◌↔◌, IsTrue, ℕ, ◌+◌, ◌<◌, ◌≤◌, Bool, true, false, List, length, take, get_or, inl, inr, sym, ap, subst, ◌∙◌}
+use Rattle.std.proofs.Common.{◌≡◌, ◌↔◌, IsTrue, ℕ, ◌+◌, ◌<◌, ◌≤◌, Bool, false, List, length, take, get_or, inl, inr, sym, ap, subst, ◌∙◌}
 use Rattle.std.specs.Prelude.{ℤ}
 use Rattle.std.proofs.lemmas.List.{take_all}
-use Rattle.std.proofs.lemmas.List.Folds.{list_any_more, list_any_at}
+use Rattle.std.proofs.lemmas.List.Folds.{list_any_more}
 use Rattle.std.proofs.lemmas.Bool.{or_cases}
 use Rattle.life_cells.specs.declared.cell.Cell.{Cell}
 use Rattle.life_cells.specs.Cells.{cell, Cells, in_order, alive}
 use Rattle.life_cells.specs.Boxes.{IsInRange}
 use Rattle.life_cells.specs.BoxLaws.{IsCellInRange}
-use Rattle.life_cells.specs.Laws.{alive-in_order}
+use Rattle.life_cells.specs.Laws.{alive_of_order}
+use Rattle.life_cells.specs.PlaceLaws.{live_at}
 use Rattle.life_cells.specs.Listed.{same_cell, listed}
-use Rattle.life_cells.specs.OrderLaws.{same_cell_is, same_cell-itself}
+use Rattle.life_cells.specs.OrderLaws.{same_cell_is}
 use Rattle.life_plane.specs.Plane.{Plane}
 use Rattle.life_plane.specs.Strips.{Each}
-
--- what is listed in order is what lives
-pub alive_of_order : (cs : List Cell) (s : Cells) → cs ≡ in_order s → listed cs ≡ alive s
-alive_of_order cs s e = ap listed e ∙ sym (alive-in_order s)
-
--- the cell at a place lives
-pub place_lives : (cs : List Cell) (s : Cells) (i : ℕ) (d : Cell) → cs ≡ in_order s → i < length cs → alive s (get_or cs i d).x (get_or cs i d).y ≡ true
-place_lives cs s i d e lt =
-    let c = get_or cs i d in
-    ap (λ (p : Plane). p c.x c.y) (sym (alive_of_order cs s e)) ∙ list_any_at (same_cell c) cs i d lt (same_cell-itself c)
 
 -- the cell at a place is in range
 pub place_in_range : (n : ℕ) (cs : List Cell) (s : Cells) (i : ℕ) (d : Cell) → IsInRange n (alive s) → cs ≡ in_order s → i < length cs → IsCellInRange n (get_or cs i d)
 place_in_range n cs s i d range e lt =
-    let live = place_lives cs s i d e lt in
+    let live = live_at s cs e i d lt in
     record { x_low = range.x_low _ _ live; x_high = range.x_high _ _ live; y_low = range.y_low _ _ live; y_high = range.y_high _ _ live }
 
 -- one cell more
@@ -45,4 +36,4 @@ each_of_set P cs s n e le all x y live =
 
 -- a cell that fails
 pub not_each : (P : ℤ → ℤ → Type 0) (cs : List Cell) (s : Cells) (i : ℕ) (d : Cell) (test : Bool) → cs ≡ in_order s → i < length cs → (IsTrue test ↔ P (get_or cs i d).x (get_or cs i d).y) → test ≡ false → IsTrue false ↔ Each P (alive s)
-not_each P cs s i d test e lt exact fails = (λ h. absurd (cc), λ h. sym fails ∙ exact.1 (h _ _ (place_lives cs s i d e lt)))
+not_each P cs s i d test e lt exact fails = (λ h. absurd (cc), λ h. sym fails ∙ exact.1 (h _ _ (live_at s cs e i d lt)))

@@ -1,10 +1,10 @@
 -- What lives where a list of cells is moved, or turned over and moved.
-use Rattle.std.specs.Prelude.{◌≡◌, Bool, true, false, ◌&&◌, ◌||◌, ℕ, zero, suc, length, slice_index_or, ℤ, pos, neg_ℤ, ◌+ℤ◌, ◌-ℤ◌, List, [], ◌∷◌, map}
-use Rattle.std.specs.Cmp.{signed_Decides}
+use Rattle.std.specs.Prelude.{◌≡◌, ◌||◌, ℕ, zero, suc, length, slice_index_or, ℤ, pos, neg_ℤ, ◌+ℤ◌, ◌-ℤ◌, List, [], ◌∷◌, map}
+use Rattle.std.specs.Cmp.{signed_Decides, both_ways}
 use Rattle.std.proofs.lemmas.List.{length-map}
 use Rattle.std.proofs.Common.{refl, ap, sym, ◌∙◌, arith}
 use Rattle.std.proofs.lemmas.Int.{ints}
-use Rattle.std.proofs.lemmas.Bool.{and_parts}
+use Rattle.std.proofs.lemmas.Bool.{and_parts, and_from}
 use Rattle.life_cells.specs.declared.cell.Cell.{Cell}
 use Rattle.life_cells.specs.Cells.{cell}
 use Rattle.life_cells.specs.Listed.{listed, same_cell}
@@ -18,21 +18,10 @@ use Rattle.life_gliders.specs.Listing.{quarters, at_rest, placed, glider_list, c
 use Rattle.life_gliders.specs.declared.track.Track.{Track}
 use Rattle.life_gliders.specs.declared.track.Track.TheVariants.{Stream, Salvo}
 
-same_test : (a b : Bool) → (a ≡ true → b ≡ true) → (b ≡ true → a ≡ true) → a ≡ b
-same_test true true f g = refl
-same_test true false f g = sym (f refl)
-same_test false true f g = g refl
-same_test false false f g = refl
-
-and_true : (a b : Bool) → a ≡ true → b ≡ true → (a && b) ≡ true
-and_true true true h k = refl
-and_true true false h k = k
-and_true false b h k = h
-
 -- the test of a place against a cell, from what the two mean
 same_place : (d c : Cell) (a b : ℤ) (p : ℤ × ℤ) → (d ≡ c → (a ≡ p.0) × (b ≡ p.1)) → (a ≡ p.0 → b ≡ p.1 → d ≡ c) → same_cell d c ≡ is_at a b p
-same_place d c a b p there back = same_test _ _
-    (λ h. let both = there (same_cell_is d c h) in and_true _ _ ((signed_Decides a p.0).1 both.0) ((signed_Decides b p.1).1 both.1))
+same_place d c a b p there back = both_ways _ _
+    (λ h. let both = there (same_cell_is d c h) in and_from _ _ ((signed_Decides a p.0).1 both.0) ((signed_Decides b p.1).1 both.1))
     (λ h. let both = and_parts _ _ h in ap (same_cell d) (sym (back ((signed_Decides a p.0).0 both.0) ((signed_Decides b p.1).0 both.1))) ∙ same_cell-itself d)
 
 -- a list of cells, each placed

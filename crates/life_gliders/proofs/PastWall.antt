@@ -1,24 +1,15 @@
 -- Cells of a set in front of the wall, looked at one by one.
-use Rattle.std.proofs.Common.{◌≡◌, ◌↔◌, IsTrue, ℕ, ◌+◌, ◌<◌, ◌≤◌, Bool, true, false, ℤ, pos, ◌+ℤ◌, ◌-ℤ◌, List, length, get_or, refl, sym, ap, ◌∙◌}
-use Rattle.std.specs.Prelude.{◌&&◌, int_le}
-use Rattle.std.proofs.lemmas.Bool.{and_parts}
+use Rattle.std.proofs.Common.{◌≡◌, ◌↔◌, IsTrue, ℕ, ◌+◌, ◌<◌, ◌≤◌, Bool, true, false, ℤ, pos, ◌+ℤ◌, ◌-ℤ◌, List, length, get_or, sym, ap, ◌∙◌}
+use Rattle.std.specs.Prelude.{int_le}
+use Rattle.std.proofs.lemmas.Bool.{and_parts, and_from, false_from_ne_true, true≢false}
+use Rattle.std.specs.Cmp.{both_ways}
 use Rattle.life_plane.specs.Plane.{Plane, nothing, same_plane}
 use Rattle.life_cells.specs.declared.cell.Cell.{Cell}
 use Rattle.life_cells.specs.Cells.{IsRising, Cells, alive, in_order}
 use Rattle.life_cells.specs.Listed.{listed}
 use Rattle.life_gliders.specs.Beyond.{beyond, IsFirstLive, IsPartOf}
-use Rattle.life_gliders.proofs.Looking.{EachBefore, each_more, each_listed, listed_is_alive, place_lives, first_place}
-
-and_true : (a b : Bool) → a ≡ true → b ≡ true → (a && b) ≡ true
-and_true true b h k = k
-and_true false b h k = h
-
-not_true : (b : Bool) → (b ≡ true → ⊥) → b ≡ false
-not_true true h = absurd (h refl)
-not_true false h = refl
-
-true≢false : true ≡ false → ⊥
-true≢false h = cc
+use Rattle.life_gliders.proofs.EachCell.{EachBefore, each_more, each_listed, listed_is_alive, first_place}
+use Rattle.life_cells.specs.PlaceLaws.{live_at}
 
 -- u is at least five more than the wall
 abbrev pub past : ℤ → Cell → Bool
@@ -29,12 +20,12 @@ past wall c = int_le (wall +ℤ pos 5) (c.x -ℤ c.y)
 pub first_past : (w : ℤ) (cs : List Cell) (s : Cells) (i : ℕ) (z : Cell) → cs ≡ in_order s → IsRising cs → i < length cs → EachBefore (λ d. past w d ≡ true → ⊥) cs i →
     past w (get_or cs i z) ≡ true → IsFirstLive (get_or cs i z) (beyond w (alive s))
 first_past w cs s i z order rises lt none here = record {
-  lives = and_true _ _ (place_lives cs s i z order lt) here;
+  lives = and_from _ _ (live_at s cs order i z lt) here;
   none_before = λ x y live before. let both = and_parts _ _ live in first_place (λ d. past w d ≡ true) cs i z rises lt none x y (listed_is_alive cs s order x y ∙ both.0) both.1 before;
 }
 
 pub none_past : (w : ℤ) (cs : List Cell) (s : Cells) (n : ℕ) → cs ≡ in_order s → length cs ≤ n → EachBefore (λ d. past w d ≡ true → ⊥) cs n → beyond w (alive s) ≡ nothing
-none_past w cs s n order short none = same_plane _ _ (λ x y. not_true _ (λ live.
+none_past w cs s n order short none = same_plane _ _ (λ x y. false_from_ne_true _ (λ live.
     let both = and_parts _ _ live in each_listed (λ d. past w d ≡ true → ⊥) cs n short none x y (listed_is_alive cs s order x y ∙ both.0) both.1))
 
 -- one more cell that is not past the wall
@@ -68,19 +59,14 @@ pub not_only : (w : ℤ) (list cs : List Cell) (s : Cells) (i : ℕ) (z : Cell) 
     there ≡ listed list (get_or cs i z).x (get_or cs i z).y → there ≡ false → IsTrue false ↔ IsPartOf (beyond w (alive s)) (listed list)
 not_only w list cs s i z front there order lt is passes has fails = (
   λ h. absurd (true≢false (sym h)),
-  λ part. absurd (true≢false (sym (part.each _ _ (and_true _ _ (place_lives cs s i z order lt) (sym is ∙ passes))) ∙ sym has ∙ fails)),
+  λ part. absurd (true≢false (sym (part.each _ _ (and_from _ _ (live_at s cs order i z lt) (sym is ∙ passes))) ∙ sym has ∙ fails)),
 )
 
 -- ---- the same plane
 
-same_test : (a b : Bool) → (a ≡ true → b ≡ true) → (b ≡ true → a ≡ true) → a ≡ b
-same_test true b f g = sym (f refl)
-same_test false true f g = g refl
-same_test false false f g = refl
-
 -- planes that are part of each other are the same
 pub same_parts : (s t : Plane) → IsPartOf s t → IsPartOf t s → s ≡ t
-same_parts s t h k = same_plane _ _ (λ x y. same_test (s x y) (t x y) (h.each x y) (k.each x y))
+same_parts s t h k = same_plane _ _ (λ x y. both_ways (s x y) (t x y) (h.each x y) (k.each x y))
 
 pub part_of_same : (s t : Plane) → s ≡ t → IsPartOf s t
 part_of_same s t e = record { each = λ x y live. ap (λ (p : Plane). p x y) (sym e) ∙ live }
