@@ -1,7 +1,3 @@
--- Lemmas on the routes of an elbow.
-pub mod Order
-pub mod Back
-pub mod Breadth
-pub mod Trying
-pub mod Least
-pub mod Turns
+-- Lemmas on least lists.
+pub mod Answered
+pub mod OneList

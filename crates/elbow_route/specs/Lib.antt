@@ -1,7 +1,3 @@
--- Lists of turns that lead an elbow, and the least of them: no longer than the elbow has states.
+-- Lists of turns that lead an elbow where it is wanted, and the least of them.
 pub mod Lists
-pub mod Order
-pub mod Labels
-pub mod Moves
-pub mod Search
-pub mod Shortness
+pub mod ShortnessLaws

@@ -1,18 +1,23 @@
 //! Laws of the least lists of turns.
 
-ghost use Rattle.std.specs.Prelude.{◌≡◌, ◌≤◌, ℕ, ℤ, pos, List, length};
+ghost use Rattle.std.specs.Prelude.{◌≡◌, ◌≤◌, ℕ, ℤ, List, length};
 ghost use Rattle.book_parts.specs.declared.turn.RawTurn.{RawTurn};
-ghost use Rattle.recipe_turn.specs.declared.elbow.Elbow.{Elbow as Place};
-ghost use Rattle.recipe_turn.specs.Elbows.{elbow, HasStates};
-ghost use Rattle.elbow_route.specs.Lists.{IsLeastClosing};
+ghost use Rattle.elbow_graph.specs.declared.elbow.Elbow.{Elbow as Place};
+ghost use Rattle.elbow_graph.specs.declared.goal.Goal.{Goal as Wanted};
+ghost use Rattle.elbow_graph.specs.declared.goal.Goal.TheVariants.{Anywhere};
+ghost use Rattle.elbow_graph.specs.Exits.{exits_of};
+ghost use Rattle.elbow_graph.specs.Goals.{Passes, IsLeastRoute};
+ghost use Rattle.elbow_graph.specs.States.{IsComeTo, HasReached};
 
-/// There is at most one least list that closes an elbow.
-pub fn least_closings_are_one()
-    ensures { (turns : List RawTurn) (span : ℤ) (from : Place) (a b : List ℕ) → IsLeastClosing turns span from a → IsLeastClosing turns span from b → a ≡ b }
+/// There is at most one least list that serves a goal: that closes the elbow, or throws on a lane.
+pub fn least_lists_are_one()
+    ensures { (turns : List RawTurn) (span : ℤ) (goal : Wanted) (from : Place) (a b : List ℕ) → IsLeastRoute (exits_of turns) span goal from a →
+        IsLeastRoute (exits_of turns) span goal from b → a ≡ b }
 {}
 
-/// The least list that closes the elbow from its start has no more turns than the elbow has states.
+/// The least list from an elbow has no more turns than the elbows that are come to from any elbow that leads there: from itself, or from the
+/// elbow's start.
 pub fn least_lists_are_short()
-    ensures { (turns : List RawTurn) (start : ℕ) (span : ℤ) (limit count : ℕ) (list : List ℕ) → HasStates turns start span limit count →
-        IsLeastClosing turns span (elbow start (pos 0)) list → length list ≤ count }
+    ensures { (turns : List RawTurn) (span : ℤ) (goal : Wanted) (first from : Place) (limit count : ℕ) (list : List ℕ) → HasReached (Passes (exits_of turns) span Anywhere) first limit count →
+        IsComeTo turns span first from → IsLeastRoute (exits_of turns) span goal from list → length list ≤ count }
 {}

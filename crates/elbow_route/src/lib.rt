@@ -1,11 +1,9 @@
-//! How turns lead the elbow where it is wanted: the least lists of turns, found by breadth over its kinds and shifts.
+//! How turns lead the elbow where it is wanted: the least lists of turns that close it, or that throw on a lane.
 #![tactic(auto)]
 
-pub mod closing;
-mod found;
 pub mod laws;
-mod tried;
+pub mod routes;
 
-pub use closing::route_to_close;
-pub use laws::{least_closings_are_one, least_lists_are_short};
-pub use recipe_turn::Elbow;
+pub use elbow_graph::{Elbow, ElbowGraph};
+pub use laws::{least_lists_are_one, least_lists_are_short};
+pub use routes::{route_to_close, route_to_lane};

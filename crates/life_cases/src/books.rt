@@ -4,12 +4,12 @@ use crate::cells::show_hit;
 use crate::show::{show_cells, show_lines};
 use book_text::read_book;
 use book_write::write_book;
+use elbow_graph::elbow_states;
 use elbow_route::{Elbow, route_to_close};
 use life_cells::NoMemory;
 use life_steps::Steps;
 use recipe_book::{CheckedBook, check_book};
 use recipe_hit::CheckedSalvo;
-use recipe_turn::elbow_states;
 use std::alloc::Global;
 use std::sync::ledger::Ledger;
 

@@ -19,7 +19,7 @@ use Rattle.book_text.specs.declared.error.BookError as book
 use Rattle.life_target.specs.Targets.{IsTarget, TargetIsRefused}
 use Rattle.life_target.specs.declared.refusal.TargetError as target
 use Rattle.recipe_turn.specs.Checked.{AreValid}
-use Rattle.recipe_turn.specs.Elbows.{HasStates}
+use Rattle.elbow_graph.specs.States.{HasStates}
 use Rattle.recipe_book.specs.Checked.{most_states}
 use Rattle.recipe_book.specs.Entries.{AreTheSound}
 use Rattle.recipe_book.specs.Refusals.{BookIsRefused}

@@ -1,7 +1,7 @@
 -- What a book text says, and what is known of it once it is checked.
 use Rattle.std.specs.Prelude.{◌≡◌, ℕ, pos, ◌+ℤ◌, ◌≤ℤ◌, List}
 use Rattle.book_text.specs.Book.{Said, Says}
-use Rattle.recipe_turn.specs.Elbows.{raws}
+use Rattle.recipe_turn.specs.Checked.{raws}
 use Rattle.recipe_book.specs.Checked.{CheckedEntries}
 use Rattle.recipe_book.specs.Entries.{AreTheSound}
 

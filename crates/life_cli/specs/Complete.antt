@@ -8,7 +8,7 @@ use Rattle.life_rle.specs.TextFaults.{IsFineText}
 use Rattle.book_parts.specs.declared.turn.RawTurn.{RawTurn}
 use Rattle.book_text.specs.Book.{Said}
 use Rattle.recipe_turn.specs.Checked.{AreValid}
-use Rattle.recipe_turn.specs.Elbows.{HasStates}
+use Rattle.elbow_graph.specs.States.{HasStates}
 use Rattle.recipe_book.specs.Entries.{AreTheSound}
 use Rattle.recipe_book.specs.Checked.{most_states}
 use Rattle.stream_time.specs.Numbered.{AreNumbered, count_of}

@@ -9,7 +9,7 @@ ghost use Rattle.life_io.specs.Counts.{IsLaterCount};
 ghost use Rattle.life_io.specs.Texts.{Holds};
 ghost use Rattle.book_text.specs.Book.{Said};
 ghost use Rattle.book_parts.specs.Proper.{IsProperBook};
-ghost use Rattle.recipe_turn.specs.Elbows.{raws};
+ghost use Rattle.recipe_turn.specs.Checked.{raws};
 ghost use Rattle.stream_time.specs.Built.{IsBuilt};
 ghost use Rattle.life_cli.specs.Book.{IsCheckedOf};
 ghost use Rattle.life_cli.specs.Compiled.{IsAnswer, AnswersBook};

@@ -39,8 +39,8 @@ use Rattle.book_parts.specs.declared.turn.TurnEnd.{TurnEnd}
 use Rattle.book_parts.specs.declared.turn.TurnEnd.TheVariants.{Close, Move, Emit}
 use Rattle.book_parts.specs.Limits.{AreProper}
 use Rattle.book_parts.specs.Kinds.{kind_plane, next_plane}
-use Rattle.recipe_turn.specs.declared.elbow.Elbow.{Elbow}
-use Rattle.recipe_turn.specs.Elbows.{elbow, leaves}
+use Rattle.elbow_graph.specs.declared.elbow.Elbow.{Elbow}
+use Rattle.elbow_graph.specs.Elbows.{elbow, leaves}
 use Rattle.recipe_turn.specs.Kind.{IsValidKind}
 use Rattle.stream_time.specs.Events as timed
 use Rattle.plan_facts.specs.Happenings.Happening.{Turns, Hits}

@@ -22,7 +22,7 @@ use Rattle.life_cells.specs.Firsts.{IsFirstChange}
 use Rattle.life_cells.specs.FirstLaws.{one_first}
 use Rattle.recipe_turn.specs.Checked.{AreValid}
 use Rattle.recipe_turn.specs.Refusals.{KindsAreRefused, TurnIsRefused}
-use Rattle.recipe_turn.specs.Elbows.{HasStates, HasMoreStates}
+use Rattle.elbow_graph.specs.States.{HasStates, HasMoreStates}
 use Rattle.recipe_turn.specs.declared.refusal.KindsError.{KindsError}
 use Rattle.recipe_turn.specs.declared.refusal.KindsError.TheVariants as kinds
 use Rattle.recipe_book.specs.Checked.{most_states}

@@ -12,7 +12,8 @@ use Rattle.book_parts.specs.contracts.settings.Settings as settings_row
 use Rattle.book_parts.specs.declared.kind.RawKind.{RawKind}
 use Rattle.book_parts.specs.declared.salvo.RawSalvo.{RawSalvo}
 use Rattle.recipe_turn.specs.Checked.{Checked, coded_kind, coded_checked, AreValid, IsChecked, IsOf}
-use Rattle.recipe_turn.specs.Elbows.{raws, HasStates}
+use Rattle.recipe_turn.specs.Checked.{raws}
+use Rattle.elbow_graph.specs.States.{HasStates}
 use Rattle.recipe_hit.specs.Checked as hit
 use Rattle.recipe_hit.specs.Checked.{Struck, coded_struck}
 

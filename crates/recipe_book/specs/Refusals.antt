@@ -9,7 +9,7 @@ use Rattle.book_parts.specs.declared.salvo.RawSalvo.{RawSalvo}
 use Rattle.life_cells.specs.Firsts.{IsFirstChange}
 use Rattle.recipe_turn.specs.Checked.{AreValid}
 use Rattle.recipe_turn.specs.Refusals.{KindsAreRefused}
-use Rattle.recipe_turn.specs.Elbows.{HasMoreStates}
+use Rattle.elbow_graph.specs.States.{HasMoreStates}
 use Rattle.recipe_turn.specs.declared.refusal.KindsError.TheVariants as kinds
 use Rattle.recipe_book.specs.Entries.{AreTheSound}
 use Rattle.recipe_book.specs.Checked.{most_states}

@@ -9,7 +9,7 @@ ghost use Rattle.book_parts.specs.declared.kind.RawKind.{RawKind};
 ghost use Rattle.book_parts.specs.declared.turn.RawTurn.{RawTurn};
 ghost use Rattle.book_parts.specs.declared.salvo.RawSalvo.{RawSalvo};
 ghost use Rattle.recipe_turn.specs.Checked.{AreValid};
-ghost use Rattle.recipe_turn.specs.Elbows.{HasStates};
+ghost use Rattle.elbow_graph.specs.States.{HasStates};
 ghost use Rattle.recipe_hit.specs.Checked.{Struck};
 ghost use Rattle.recipe_book.specs.Checked.{most_states};
 ghost use Rattle.recipe_book.specs.Entries.{AreTheSound, AreTheSoundSalvos};
@@ -20,12 +20,12 @@ ghost use Rattle.recipe_book.specs.declared.refusal.BookRefusal.{BookRefusal};
 ghost use Rattle.recipe_book.specs.declared.verdict.Verdict.{Verdict};
 
 use crate::refusal::BookRefusal;
+use elbow_graph::states_within_are_not_more;
 use recipe_hit::laws::{salvos_have_one_refusal, sound_salvos_have_no_refusal};
 use recipe_turn::laws::{
     kinds_have_one_refusal, sound_turns_have_no_refusal, turns_have_one_refusal,
     valid_kinds_have_no_refusal,
 };
-use recipe_turn::states_within_are_not_more;
 
 /// The sound turns of a book are one list.
 pub fn sound_turns_are_one()

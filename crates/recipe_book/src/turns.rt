@@ -4,7 +4,7 @@ ghost use Rattle.std.specs.Prelude.{◌≡◌, ◌+◌, ◌≤◌, IfOk, OnOk, l
 ghost use Rattle.std.specs.List.{AllByRecursion};
 ghost use Rattle.book_parts.specs.Limits.{AreProper};
 ghost use Rattle.book_parts.specs.Proper.{IsProperTurn};
-ghost use Rattle.recipe_turn.specs.Elbows.{raws};
+ghost use Rattle.recipe_turn.specs.Checked.{raws};
 ghost use Rattle.recipe_book.specs.Entries.{AreTheSound};
 ghost use Rattle.recipe_book.specs.Verdicts.{IsTurnVerdict};
 ghost use Rattle.recipe_book.specs.Accepting.{IsJudgedTurn, IsKeptTurn, AddsVerdicts};

@@ -9,7 +9,3 @@ pub mod Looking
 pub mod Refused
 pub mod Courses
 pub mod OneRefusal
-pub mod Reaching
-pub mod Trying
-pub mod Counting
-pub mod OneNumber

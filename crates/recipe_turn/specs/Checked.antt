@@ -1,5 +1,5 @@
 -- What is known of kinds and of a turn that were checked.
-use Rattle.std.specs.Prelude.{◌≡◌, ℕ, List, length}
+use Rattle.std.specs.Prelude.{◌≡◌, ℕ, List, length, map}
 use Rattle.std.specs.List.{AllByRecursion}
 use Rattle.std.specs.Coded.{Coded, code_by, coded×, coded_ℕ, coded_list}
 use Rattle.std.proofs.Common.{refl}
@@ -61,3 +61,7 @@ pub record IsOf (settings : Settings) (kinds : List RawKind) (turn : Checked) : 
   pub kinds_are : turn.kinds ≡ length kinds
   pub kind_is : alive turn.kind ≡ kind_plane kinds turn.raw.kind
   pub next_is : alive turn.next ≡ next_plane kinds turn.raw.end
+
+-- turns as their book states them
+abbrev pub raws : List Checked → List RawTurn
+raws turns = map (λ (turn : Checked). turn.raw) turns

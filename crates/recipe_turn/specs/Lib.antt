@@ -6,6 +6,3 @@ pub mod Breaches
 pub mod Range
 pub mod Checked
 pub mod Refusals
-pub mod Elbows
-pub mod Steps
-pub mod SameElbows

@@ -2,8 +2,8 @@
 use Rattle.std.proofs.Common.{◌≡◌, ℕ, zero, suc, ◌-◌, ◌≤◌, List, [], ◌∷◌, length, refl, sym, subst, arith, get_or}
 use Rattle.book_parts.specs.declared.turn.RawTurn.{RawTurn}
 use Rattle.recipe_turn.specs.Checked.{Checked}
-use Rattle.recipe_turn.specs.Elbows.{raws}
-use Rattle.elbow_route.specs.Lists.{IsNumbered}
+use Rattle.recipe_turn.specs.Checked.{raws}
+use Rattle.elbow_graph.specs.Numbered.{IsNumbered}
 
 -- a number that names a turn is one of theirs
 pub numbered_within : (turns : List Checked) (number : ℕ) (turn : RawTurn) → IsNumbered (raws turns) number turn → (1 ≤ number) × (number ≤ length turns)

@@ -10,12 +10,12 @@ use Rattle.life_cells.specs.Listed.{listed}
 use Rattle.book_parts.specs.Proper.{IsProperTurn}
 use Rattle.book_parts.specs.declared.settings.Settings.{Settings}
 use Rattle.book_parts.specs.declared.turn.RawTurn.{RawTurn}
-use Rattle.elbow_route.specs.Lists.{IsNumbered}
+use Rattle.elbow_graph.specs.Numbered.{IsNumbered}
 use Rattle.stream_time.specs.Schedule.{Timed, end, advance_of}
 use Rattle.stream_time.specs.Pattern.{turn_gliders, stream, last_end}
 use Rattle.stream_time.specs.Timing.{timed, wait}
 use Rattle.stream_time.specs.Numbered.{AreNumbered, count_of}
-use Rattle.stream_time.specs.NumberedLaws.{numbered_once}
+use Rattle.elbow_graph.specs.NumberedLaws.{numbered_once}
 use Rattle.stream_time.specs.Laying.{IsShift, IsEarly, latest_start, IsPushed, IsLaidOut}
 use Rattle.stream_time.specs.declared.layout.Layout.{Layout}
 use Rattle.stream_time.specs.RangeLaws.{early_more}

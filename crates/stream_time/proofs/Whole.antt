@@ -15,9 +15,10 @@ use Rattle.book_parts.specs.declared.turn.RawTurn.{RawTurn}
 use Rattle.recipe_turn.specs.Kind.{IsValidKind}
 use Rattle.recipe_turn.specs.Turn.{IsSound}
 use Rattle.recipe_turn.specs.Checked.{Checked, IsChecked, IsOf, AreValid}
-use Rattle.recipe_turn.specs.Elbows.{raws, elbow}
+use Rattle.recipe_turn.specs.Checked.{raws}
+use Rattle.elbow_graph.specs.Elbows.{elbow}
 use Rattle.recipe_book.specs.Checked.{CheckedEntries, IsCheckedBook}
-use Rattle.elbow_route.specs.Lists.{IsNumbered}
+use Rattle.elbow_graph.specs.Numbered.{IsNumbered}
 use Rattle.stream_time.specs.Schedule.{Timed, advance_of, Past, no_past, past_after, IsValid, IsChosen}
 use Rattle.stream_time.specs.Pattern.{Closes, stream, pattern, last_end}
 use Rattle.stream_time.specs.Timing.{timed, wait}
@@ -31,7 +32,8 @@ use Rattle.life_cells.specs.Listed.{listed}
 use Rattle.stream_time.specs.Built.{most_gliders, IsClosing, IsBuilt, IsLong}
 use Rattle.stream_time.specs.Laying.{IsLaidOut}
 use Rattle.stream_time.specs.Numbered.{count_of}
-use Rattle.elbow_route.specs.Shortness.{least_closing_is_short}
+use Rattle.elbow_graph.specs.declared.goal.Goal.TheVariants as goals
+use Rattle.elbow_route.specs.ShortnessLaws.{least_route_is_short}
 use Rattle.stream_time.specs.declared.layout.Layout.{Layout}
 
 -- what holds of each kind holds of the one with a number
@@ -121,7 +123,7 @@ pub record IsWhole (book : CheckedEntries) (list : List ℕ) : Type 0 where
 
 pub whole : (book : CheckedEntries) (list : List ℕ) → IsCheckedBook book → IsClosing (raws book.turns) book.settings.span book.start list → IsWhole book list
 whole book list b least =
-    let w = walked (raws book.turns) book.settings.span (elbow book.start (pos 0)) 0 list least.closes in
+    let w = walked (raws book.turns) book.settings.span (elbow book.start (pos 0)) 0 list least.ends in
     let right = picked_have (IsRight book.settings book.kinds) book.turns (all_right book.settings book.kinds book.turns b.turns b.own) list w.picked w.are in
     let chosen : IsChosen book.settings no_past (timed w.picked (pos 0) 0) = timed_chosen book.settings no_past book.start (pos 0) (pos 0) w.picked 0 w.walk (refl, inl (refl, refl)) in
     record {
@@ -151,7 +153,8 @@ picked_of book list b least = let w = whole book list b least in (w.picked, w.ar
 -- the list is no longer than the elbow has states
 pub short_list : (book : CheckedEntries) (list : List ℕ) → IsCheckedBook book → IsClosing (raws book.turns) book.settings.span book.start list → length list ≤ 2 ^ 22
 short_list book list b least =
-    let short = least_closing_is_short (raws book.turns) book.start book.settings.span _ b.states.0 list b.states.1 least in
+    let start = elbow book.start (pos 0) in
+    let short = least_route_is_short (raws book.turns) book.settings.span goals.Closed start start _ b.states.0 list b.states.1 ([], refl) least in
     let few = b.states.1.within in
     omega arith
 

@@ -5,7 +5,8 @@ use Rattle.life_cells.specs.Cells.{alive, cell}
 use Rattle.life_cells.specs.Boxes.{IsInRange}
 use Rattle.book_parts.specs.declared.settings.Settings.{Settings}
 use Rattle.book_parts.specs.declared.turn.RawTurn.{RawTurn}
-use Rattle.recipe_turn.specs.Elbows.{raws, elbow}
+use Rattle.recipe_turn.specs.Checked.{raws}
+use Rattle.elbow_graph.specs.Elbows.{elbow}
 use Rattle.recipe_book.specs.Checked.{CheckedEntries}
 use Rattle.elbow_route.specs.Lists.{ClosesBy, IsLeastClosing}
 use Rattle.stream_time.specs.Schedule.{Timed, no_past, IsChosen}

@@ -1,8 +1,8 @@
 -- The turns that a list of numbers names, and their walk in time.
 use Rattle.std.specs.Prelude.{◌≡◌, ℕ, List, [], ◌∷◌, length, sum_by}
 use Rattle.book_parts.specs.declared.turn.RawTurn.{RawTurn}
-use Rattle.recipe_turn.specs.declared.elbow.Elbow.{Elbow}
-use Rattle.elbow_route.specs.Lists.{IsNumbered}
+use Rattle.elbow_graph.specs.declared.elbow.Elbow.{Elbow}
+use Rattle.elbow_graph.specs.Numbered.{IsNumbered}
 use Rattle.stream_time.specs.Pattern.{Closes}
 use Rattle.stream_time.specs.Timing.{timed}
 

@@ -6,7 +6,7 @@ ghost use Rattle.life_cells.specs.Cells.{alive};
 ghost use Rattle.life_cells.specs.Listed.{listed};
 ghost use Rattle.book_parts.specs.Kinds.{kind_plane};
 ghost use Rattle.book_parts.specs.declared.turn.RawTurn.{RawTurn};
-ghost use Rattle.recipe_turn.specs.Elbows.{raws};
+ghost use Rattle.recipe_turn.specs.Checked.{raws};
 ghost use Rattle.stream_time.specs.Built.{most_gliders, IsClosing, IsBuilt, BuildingIsRefused, ClosingIsRefused, LengthIsRefused};
 ghost use Rattle.stream_time.specs.Numbered.{AreNumbered, count_of};
 

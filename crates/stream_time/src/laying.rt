@@ -5,8 +5,8 @@ ghost use Rattle.std.specs.List.{AllByRecursion};
 ghost use Rattle.book_parts.specs.Limits.{AreProper};
 ghost use Rattle.book_parts.specs.Proper.{IsProperTurn};
 ghost use Rattle.book_parts.specs.declared.turn.RawTurn.{RawTurn};
-ghost use Rattle.recipe_turn.specs.Elbows.{raws};
-ghost use Rattle.elbow_route.specs.Lists.{IsNumbered};
+ghost use Rattle.recipe_turn.specs.Checked.{raws};
+ghost use Rattle.elbow_graph.specs.Numbered.{IsNumbered};
 ghost use Rattle.stream_time.specs.Numbered.{AreNumbered, count_of};
 ghost use Rattle.stream_time.specs.Laying.{IsLaidOut};
 

@@ -5,7 +5,8 @@ use Rattle.book_parts.specs.declared.kind.RawKind.{RawKind}
 use Rattle.book_parts.specs.Said.{Said}
 use Rattle.book_parts.specs.Proper.{IsProperBook}
 use Rattle.recipe_turn.specs.Checked.{Checked}
-use Rattle.recipe_turn.specs.Elbows.{raws, HasStates}
+use Rattle.recipe_turn.specs.Checked.{raws}
+use Rattle.elbow_graph.specs.States.{HasStates}
 use Rattle.recipe_hit.specs.Checked.{Struck}
 use Rattle.recipe_book.specs.Entries.{AreTheSound}
 use Rattle.recipe_book.specs.ByShape.{IsIndex}

@@ -6,7 +6,7 @@ use Rattle.book_parts.specs.Kinds.{kind_plane}
 use Rattle.book_parts.specs.declared.settings.Settings.{Settings}
 use Rattle.book_parts.specs.declared.turn.RawTurn.{RawTurn}
 use Rattle.recipe_turn.specs.Checked.{Checked}
-use Rattle.recipe_turn.specs.Elbows.{raws}
+use Rattle.recipe_turn.specs.Checked.{raws}
 use Rattle.stream_time.specs.Numbered.{AreNumbered}
 use Rattle.stream_time.specs.Laying.{IsLaidOut}
 use Rattle.stream_time.proofs.Whole.{picked_of, short_list, built_from}

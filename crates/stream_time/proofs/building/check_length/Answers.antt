@@ -1,7 +1,7 @@
 use Rattle.std.proofs.Common.{◌≡◌, List, subst, sym}
 use Rattle.book_parts.specs.declared.turn.RawTurn.{RawTurn}
 use Rattle.recipe_turn.specs.Checked.{Checked}
-use Rattle.recipe_turn.specs.Elbows.{raws}
+use Rattle.recipe_turn.specs.Checked.{raws}
 use Rattle.stream_time.specs.Numbered.{AreNumbered, count_of}
 use Rattle.stream_time.proofs.Whole.{picked_of, short_list, long_list}
 use Rattle.stream_time.proofs.building.check_length.Goals as goal

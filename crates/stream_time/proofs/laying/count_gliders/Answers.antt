@@ -1,5 +1,5 @@
 use Rattle.std.proofs.Common.{◌∙◌, ap, length}
-use Rattle.recipe_turn.specs.Elbows.{raws}
+use Rattle.recipe_turn.specs.Checked.{raws}
 use Rattle.stream_time.specs.Numbered.{count_of}
 use Rattle.stream_time.specs.NumberedLaws.{picked_once}
 use Rattle.stream_time.proofs.SoFar.{count_more, count_ends}

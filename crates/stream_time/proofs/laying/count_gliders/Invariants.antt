@@ -1,6 +1,6 @@
 use Rattle.std.proofs.Common.{List}
 use Rattle.book_parts.specs.declared.turn.RawTurn.{RawTurn}
-use Rattle.recipe_turn.specs.Elbows.{raws}
+use Rattle.recipe_turn.specs.Checked.{raws}
 use Rattle.stream_time.specs.Numbered.{AreNumbered}
 use Rattle.stream_time.proofs.SoFar.{IsCounted}
 use Rattle.stream_time.proofs.laying.count_gliders.Given as goal

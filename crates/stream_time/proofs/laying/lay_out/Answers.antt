@@ -1,6 +1,6 @@
 use Rattle.std.proofs.Common.{subst, arith, List}
 use Rattle.book_parts.specs.declared.turn.RawTurn.{RawTurn}
-use Rattle.recipe_turn.specs.Elbows.{raws}
+use Rattle.recipe_turn.specs.Checked.{raws}
 use Rattle.stream_time.specs.Laying.{IsLaidOut}
 use Rattle.stream_time.specs.NumberedLaws.{picked_once}
 use Rattle.stream_time.proofs.SoFar.{lay_more, lay_ends, early_enough}

@@ -1,7 +1,7 @@
 use Rattle.std.proofs.Common.{arith, ap, sym, subst, ◌∙◌}
 use Rattle.recipe_turn.specs.Checked.{Checked}
-use Rattle.recipe_turn.specs.Elbows.{raws}
-use Rattle.elbow_route.specs.Lists.{IsNumbered}
+use Rattle.recipe_turn.specs.Checked.{raws}
+use Rattle.elbow_graph.specs.Numbered.{IsNumbered}
 use Rattle.stream_time.proofs.Numbers.{numbered_within, numbered_at}
 use Rattle.stream_time.proofs.laying.turn_at.Goals as goal
 
