@@ -1,9 +1,8 @@
 -- A turn's gliders, delay by delay.
 use Rattle.std.proofs.Common.{◌≡◌, ℕ, zero, suc, ◌+◌, ◌<◌, ◌≤◌, Bool, true, false, ◌||◌, ℤ, ◌-ℤ◌, List, [], ◌∷◌, ◌++◌, length, get_or, take, drop, refl, sym, ap, ◌∙◌, arith, w64, to_z, of_z}
-use Rattle.std.specs.List.{AllByRecursion}
 use Rattle.std.proofs.lemmas.Int.{ints}
 use Rattle.std.proofs.lemmas.List.{at_drop_more, at_drop_all, take_more, take_all}
-use Rattle.std.proofs.Math.Bool.{or_assoc}
+use Rattle.std.proofs.Math.Bool.{or_assoc, or-false}
 use Rattle.life_plane.specs.Plane.{Plane, union, same_plane}
 use Rattle.life_plane.specs.Tracks.{stream_glider, OnStream, stream_range}
 use Rattle.life_cells.specs.declared.cell.Cell.{Cell}
@@ -11,13 +10,7 @@ use Rattle.life_cells.specs.Listed.{listed}
 use Rattle.life_cells.specs.Laws.{listed-append}
 use Rattle.book_parts.specs.declared.settings.Settings.{Settings}
 use Rattle.recipe_turn.specs.Turn.{gliders}
-use Rattle.recipe_turn.specs.Range.{IsDelay}
-
--- what holds of each holds at a place
-pub each_at : {X : Type 0} (P : X → Type 0) (xs : List X) → AllByRecursion P xs → (i : ℕ) (d : X) → i < length xs → P (get_or xs i d)
-each_at P [] h i d lt = absurd (omega arith)
-each_at P (x ∷ xs) h zero d lt = h.0
-each_at P (x ∷ xs) h (suc i) d lt = each_at P xs h.1 i d (omega arith)
+use Rattle.book_parts.specs.Proper.{IsDelay}
 
 -- a delay that is read is what it was
 pub delay_read : (z : ℤ) → IsDelay z → to_z w64 (of_z w64 z) ≡ z
@@ -39,10 +32,6 @@ own_later settings ds t x y i d b lt e h = at_drop_more (λ xs. gliders settings
 
 pub own_none : (settings : Settings) (ds : List ℤ) (t x y : ℤ) (i : ℕ) → length ds ≤ i → gliders settings (drop i ds) t x y ≡ false
 own_none settings ds t x y i long = at_drop_all (λ xs. gliders settings xs t x y) ds i long
-
-or-false : (b : Bool) → (b || false) ≡ b
-or-false true = refl
-or-false false = refl
 
 -- one more delay is one more glider
 gliders_push : (settings : Settings) (ds : List ℤ) (d t x y : ℤ) → gliders settings (ds ++ d ∷ []) t x y ≡ (gliders settings ds t x y || own settings t d x y)

@@ -28,15 +28,15 @@ least_read : (lane j u lane_read j_read : ℤ) → lane_read ≡ lane → j_read
     u ≡ (lane +ℤ pos 2 *ℤ int_div_euclid j (pos 4)) +ℤ pos 1
 least_read lane j u lane_read j_read same_lane same_j is = is ∙ (λ i. (same_lane i +ℤ pos 2 *ℤ int_div_euclid (same_j i) (pos 4)) +ℤ pos 1)
 
-pub front_fails : (settings : Settings) (stated : TurnEnd) (kind : ℕ) (step lane j u u_read lane_read j_read : ℤ) → stated ≡ Emit kind step lane j → lane_read ≡ lane → j_read ≡ j → u_read ≡ u →
+pub front_fails : (settings : Settings) (stated : TurnEnd) (kind : ℕ) (advance lane j u u_read lane_read j_read : ℤ) → stated ≡ Emit kind advance lane j → lane_read ≡ lane → j_read ≡ j → u_read ≡ u →
     u ≡ (lane_read +ℤ pos 2 *ℤ int_div_euclid j_read (pos 4)) +ℤ pos 1 → u <ℤ (settings.wall +ℤ pos 5) → FrontIsRefused settings stated (Wall u_read)
-front_fails settings stated kind step lane j u u_read lane_read j_read is same_lane same_j same_u least short =
+front_fails settings stated kind advance lane j u u_read lane_read j_read is same_lane same_j same_u least short =
     let here = least_read lane j u lane_read j_read same_lane same_j least in
     subst (λ e. FrontIsRefused settings e (Wall u_read)) (sym is) (same_u ∙ here, λ far. omega (arith, ints, far, here, short))
 
-pub front_holds : (settings : Settings) (stated : TurnEnd) (kind : ℕ) (step lane j u lane_read j_read : ℤ) → stated ≡ Emit kind step lane j → lane_read ≡ lane → j_read ≡ j →
+pub front_holds : (settings : Settings) (stated : TurnEnd) (kind : ℕ) (advance lane j u lane_read j_read : ℤ) → stated ≡ Emit kind advance lane j → lane_read ≡ lane → j_read ≡ j →
     u ≡ (lane_read +ℤ pos 2 *ℤ int_div_euclid j_read (pos 4)) +ℤ pos 1 → (settings.wall +ℤ pos 5) ≤ℤ u → IsInFront settings stated
-front_holds settings stated kind step lane j u lane_read j_read is same_lane same_j least far =
+front_holds settings stated kind advance lane j u lane_read j_read is same_lane same_j least far =
     let here = least_read lane j u lane_read j_read same_lane same_j least in
     subst (IsInFront settings) (sym is) (omega (arith, ints, far, here))
 
@@ -48,5 +48,5 @@ pub index_read : (z : ℤ) → IsIndex z → to_z w64 (of_z w64 z) ≡ z
 index_read z h = let low = h.low in let high = h.high in omega (arith, ints)
 
 -- the numbers of a throw
-pub throw_limits : (stated : TurnEnd) (kind : ℕ) (step lane j : ℤ) → stated ≡ Emit kind step lane j → IsWithinLimits stated → IsCoordinate step × (IsCoordinate lane × IsIndex j)
-throw_limits stated kind step lane j is h = subst IsWithinLimits is h
+pub throw_limits : (stated : TurnEnd) (kind : ℕ) (advance lane j : ℤ) → stated ≡ Emit kind advance lane j → IsWithinLimits stated → IsCoordinate advance × (IsCoordinate lane × IsIndex j)
+throw_limits stated kind advance lane j is h = subst IsWithinLimits is h

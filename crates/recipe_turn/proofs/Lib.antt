@@ -1,11 +1,11 @@
--- Lemmas on places of a set's cells, first cells, tests of numbers, a turn's gliders, gaps and bounds.
-pub mod Comparisons
+-- Lemmas on kinds, on a turn's gliders, delays and bounds, and on refusals.
+pub mod KindTests
 pub mod Delays
 pub mod Spacing
 pub mod Ranges
 pub mod NamedKinds
 pub mod Fronts
-pub mod Looking
+pub mod KnownBounds
 pub mod Refused
 pub mod Courses
 pub mod OneRefusal

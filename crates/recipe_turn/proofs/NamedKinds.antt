@@ -14,7 +14,7 @@ use Rattle.book_parts.specs.declared.kind.RawKind.{RawKind}
 use Rattle.book_parts.specs.declared.turn.TurnEnd.{TurnEnd}
 use Rattle.book_parts.specs.declared.turn.TurnEnd.TheVariants.{Close, Move, Emit}
 use Rattle.recipe_turn.specs.Turn.{turn_end}
-use Rattle.recipe_turn.proofs.Comparisons.{true≢false}
+use Rattle.std.proofs.lemmas.Bool.{true≢false}
 
 kind_after : (kinds : List RawKind) (k : ℕ) (d : RawKind) → k < length kinds → alive (get_or kinds k d).cells ≡ kind_plane kinds (suc k)
 kind_after [] k d lt = absurd (omega arith)
@@ -40,14 +40,14 @@ kind_placed (kind ∷ kinds) h (suc (suc k)) = kind_placed kinds h.1 (suc k)
 
 pub next_placed : (kinds : List RawKind) → AllByRecursion IsProperKind kinds → (stated : TurnEnd) → IsPlaced (next_plane kinds stated)
 next_placed kinds h Close = none_placed
-next_placed kinds h (Move kind step) = kind_placed kinds h kind
-next_placed kinds h (Emit kind step lane j) = kind_placed kinds h kind
+next_placed kinds h (Move kind advance) = kind_placed kinds h kind
+next_placed kinds h (Emit kind advance lane j) = kind_placed kinds h kind
 
 -- an elbow and what was thrown, joined
-pub thrown_end : {E : Type 0} (r : Result Cells E) (stated : TurnEnd) (kind : ℕ) (step lane j step_read lane_read j_read : ℤ) (next elbow : Plane) (thrown : Cells) (five : List Cell) →
-    stated ≡ Emit kind step lane j → step_read ≡ step → lane_read ≡ lane → j_read ≡ j → elbow ≡ shift step_read step_read next → listed five ≡ salvo_glider lane_read j_read →
+pub thrown_end : {E : Type 0} (r : Result Cells E) (stated : TurnEnd) (kind : ℕ) (advance lane j advance_read lane_read j_read : ℤ) (next elbow : Plane) (thrown : Cells) (five : List Cell) →
+    stated ≡ Emit kind advance lane j → advance_read ≡ advance → lane_read ≡ lane → j_read ≡ j → elbow ≡ shift advance_read advance_read next → listed five ≡ salvo_glider lane_read j_read →
     thrown ≡ from_list five → IfOk r (λ s. alive s ≡ union elbow (alive thrown)) → IfOk r (λ s. alive s ≡ turn_end stated next)
-thrown_end (Ok s) stated kind step lane j step_read lane_read j_read next elbow thrown five is same_step same_lane same_j at_elbow glider all h =
-    h ∙ (λ i. union (at_elbow i) ((ap alive all ∙ alive-from_list five ∙ glider) i)) ∙ (λ i. union (shift (same_step i) (same_step i) next) (salvo_glider (same_lane i) (same_j i)))
+thrown_end (Ok s) stated kind advance lane j advance_read lane_read j_read next elbow thrown five is same_advance same_lane same_j at_elbow glider all h =
+    h ∙ (λ i. union (at_elbow i) ((ap alive all ∙ alive-from_list five ∙ glider) i)) ∙ (λ i. union (shift (same_advance i) (same_advance i) next) (salvo_glider (same_lane i) (same_j i)))
     ∙ ap (λ e. turn_end e next) (sym is)
-thrown_end (Err e) stated kind step lane j step_read lane_read j_read next elbow thrown five is same_step same_lane same_j at_elbow glider all h = h
+thrown_end (Err e) stated kind advance lane j advance_read lane_read j_read next elbow thrown five is same_advance same_lane same_j at_elbow glider all h = h

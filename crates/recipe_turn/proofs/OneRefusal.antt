@@ -24,7 +24,7 @@ use Rattle.recipe_turn.specs.declared.refusal.KindsError.{KindsError}
 use Rattle.recipe_turn.specs.declared.refusal.KindsError.TheVariants as kinds
 use Rattle.recipe_turn.specs.declared.refusal.TurnRefusal.{TurnRefusal}
 use Rattle.recipe_turn.specs.declared.refusal.TurnRefusal.TheVariants.{Gap, Short, EndDiffers, Reach, Tail, Wall, Memory}
-use Rattle.recipe_turn.proofs.Delays.{each_at}
+use Rattle.life_plane.specs.ListLaws.{each_at}
 use Rattle.recipe_turn.proofs.Spacing.{spaced_apart}
 
 -- ---- one first narrow gap
@@ -76,8 +76,8 @@ one_breach Keeps start t u c d b e =
 
 one_front : (stated : TurnEnd) (u v : ℤ) → IsFrontOf stated u → IsFrontOf stated v → u ≡ v
 one_front Close u v h k = absurd h
-one_front (Move kind step) u v h k = absurd h
-one_front (Emit kind step lane j) u v h k = h ∙ sym k
+one_front (Move kind advance) u v h k = absurd h
+one_front (Emit kind advance lane j) u v h k = h ∙ sym k
 
 -- ---- turns
 

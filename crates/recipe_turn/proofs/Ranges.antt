@@ -10,8 +10,9 @@ use Rattle.life_cells.specs.BoxLaws.{range_union}
 use Rattle.book_parts.specs.Limits.{AreProper, IsPlaced}
 use Rattle.book_parts.specs.declared.settings.Settings.{Settings}
 use Rattle.recipe_turn.specs.Turn.{gliders}
-use Rattle.recipe_turn.specs.Range.{IsDelay, IsWithinReach}
-use Rattle.recipe_turn.proofs.Comparisons.{true≢false}
+use Rattle.recipe_turn.specs.Range.{IsWithinReach}
+use Rattle.book_parts.specs.Proper.{IsDelay}
+use Rattle.std.proofs.lemmas.Bool.{true≢false}
 
 -- a place with coordinates from -n to n
 record Around (n : ℕ) (x y : ℤ) : Type 0 where

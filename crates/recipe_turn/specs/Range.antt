@@ -1,6 +1,6 @@
 -- The ranges of the numbers in a turn's test.
 use Rattle.std.specs.Prelude.{ℤ, pos, neg_ℤ, ◌^◌, ◌≤ℤ◌}
-use Rattle.book_parts.specs.Limits.{IsFrom, IsCoordinate}
+use Rattle.book_parts.specs.Limits.{IsCoordinate}
 use Rattle.book_parts.specs.Proper.{IsIndex}
 use Rattle.book_parts.specs.declared.turn.TurnEnd.{TurnEnd}
 use Rattle.book_parts.specs.declared.turn.TurnEnd.TheVariants.{Close, Move, Emit}
@@ -12,12 +12,8 @@ pub record IsWithinReach (x y : ℤ) : Type 0 where
   pub above : neg_ℤ (pos (2 ^ 41)) ≤ℤ y
   pub below : y ≤ℤ pos (2 ^ 41)
 
--- a delay that a turn may have
-abbrev pub IsDelay : ℤ → Type 0
-IsDelay delay = IsFrom (pos 0) (pos 65536) delay
-
 -- the numbers of what a turn leaves are within the limits of a book
 abbrev pub IsWithinLimits : TurnEnd → Type 0
 IsWithinLimits Close = Unit {0}
-IsWithinLimits (Move kind step) = IsCoordinate step
-IsWithinLimits (Emit kind step lane j) = IsCoordinate step × (IsCoordinate lane × IsIndex j)
+IsWithinLimits (Move kind advance) = IsCoordinate advance
+IsWithinLimits (Emit kind advance lane j) = IsCoordinate advance × (IsCoordinate lane × IsIndex j)

@@ -53,8 +53,8 @@ pub record EndsAsStated (settings : Settings) (kind next : Plane) (turn : RawTur
 -- the least u of what a turn throws
 abbrev pub IsFrontOf : TurnEnd → ℤ → Type 0
 IsFrontOf Close u = ⊥
-IsFrontOf (Move kind step) u = ⊥
-IsFrontOf (Emit kind step lane j) u = u ≡ (lane +ℤ pos 2 *ℤ int_div_euclid j (pos 4)) +ℤ pos 1
+IsFrontOf (Move kind advance) u = ⊥
+IsFrontOf (Emit kind advance lane j) u = u ≡ (lane +ℤ pos 2 *ℤ int_div_euclid j (pos 4)) +ℤ pos 1
 
 -- the delays of a turn of n generations are refused so
 abbrev pub GapsAreRefused : List ℤ → ℕ → TurnRefusal → Type 0

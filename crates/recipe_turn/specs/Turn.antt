@@ -23,8 +23,8 @@ turn_start settings kind turn = union kind (gliders settings turn.delays (pos 0)
 -- what a turn is to leave, next being the kind that it leads to
 abbrev pub turn_end : TurnEnd → Plane → Plane
 turn_end Close next = nothing
-turn_end (Move kind step) next = shift step step next
-turn_end (Emit kind step lane j) next = union (shift step step next) (salvo_glider lane j)
+turn_end (Move kind advance) next = shift advance advance next
+turn_end (Emit kind advance lane j) next = union (shift advance advance next) (salvo_glider lane j)
 
 -- each delay is at least a gap more than the one before it, and n at least a gap more than the last
 abbrev pub AreSpacedFrom : ℤ → List ℤ → ℤ → Type 0
@@ -47,8 +47,8 @@ pub record IsAheadOrOwn (settings : Settings) (delays : List ℤ) (t : ℕ) (x y
 -- what is thrown has left the wall by 5
 abbrev pub IsInFront : Settings → TurnEnd → Type 0
 IsInFront settings Close = Unit {0}
-IsInFront settings (Move kind step) = Unit {0}
-IsInFront settings (Emit kind step lane j) = (settings.wall +ℤ pos 5) ≤ℤ ((lane +ℤ pos 2 *ℤ int_div_euclid j (pos 4)) +ℤ pos 1)
+IsInFront settings (Move kind advance) = Unit {0}
+IsInFront settings (Emit kind advance lane j) = (settings.wall +ℤ pos 5) ≤ℤ ((lane +ℤ pos 2 *ℤ int_div_euclid j (pos 4)) +ℤ pos 1)
 
 -- the generations of a turn up to and with generation n keep the reach and the tail
 pub record KeepsBounds (settings : Settings) (delays : List ℤ) (start : Plane) (n : ℕ) : Type 0 where

@@ -8,7 +8,7 @@ ghost use Rattle.life_cells.specs.Boxes.{IsInRange};
 ghost use Rattle.book_parts.specs.Limits.{AreProper};
 ghost use Rattle.recipe_turn.specs.Turn.{IsAheadOrOwn};
 ghost use Rattle.recipe_turn.specs.Breaches.{KeepsReach, IsKnown, AreKnown};
-ghost use Rattle.recipe_turn.specs.Range.{IsDelay};
+ghost use Rattle.book_parts.specs.Proper.{IsDelay};
 
 use crate::limits::{first_behind, first_past_reach, is_clear};
 use book_parts::Settings;

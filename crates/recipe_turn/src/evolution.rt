@@ -7,7 +7,7 @@ ghost use Rattle.life_cells.specs.Cells.{alive};
 ghost use Rattle.life_cells.specs.Boxes.{IsInRange};
 ghost use Rattle.book_parts.specs.Limits.{AreProper};
 ghost use Rattle.recipe_turn.specs.Breaches.{AreKnown};
-ghost use Rattle.recipe_turn.specs.Range.{IsDelay};
+ghost use Rattle.book_parts.specs.Proper.{IsDelay};
 
 use crate::breaches::Breaches;
 use book_parts::Settings;

@@ -5,7 +5,7 @@ ghost use Rattle.std.specs.List.{AllByRecursion};
 ghost use Rattle.recipe_turn.specs.Turn.{AreSpaced};
 ghost use Rattle.recipe_turn.specs.Gaps.{AreApart, IsFirstNarrow};
 ghost use Rattle.recipe_turn.specs.Refusals.{GapsAreRefused};
-ghost use Rattle.recipe_turn.specs.Range.{IsDelay};
+ghost use Rattle.book_parts.specs.Proper.{IsDelay};
 
 use crate::refusal::TurnRefusal;
 

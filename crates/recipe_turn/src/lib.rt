@@ -5,7 +5,6 @@ mod breaches;
 pub mod checked_kinds;
 pub mod checked_turn;
 mod diagonals;
-mod ending;
 mod evolution;
 mod gaps;
 pub mod kinds;
@@ -15,6 +14,7 @@ mod named_kinds;
 mod own_gliders;
 pub mod refusal;
 mod soundness;
+mod turn_ends;
 
 pub use checked_kinds::{Kinds, check_kinds};
 pub use checked_turn::{CheckedTurn, check_turn};

@@ -7,7 +7,8 @@ ghost use Rattle.life_cells.specs.Boxes.{IsInRange, InBox};
 ghost use Rattle.book_parts.specs.Limits.{AreProper};
 ghost use Rattle.recipe_turn.specs.Turn.{IsInReach, IsAheadOrOwn};
 ghost use Rattle.recipe_turn.specs.Breaches.{AllKeep, IsFirstBreaking};
-ghost use Rattle.recipe_turn.specs.Range.{IsWithinReach, IsDelay};
+ghost use Rattle.recipe_turn.specs.Range.{IsWithinReach};
+ghost use Rattle.book_parts.specs.Proper.{IsDelay};
 
 use crate::diagonals::{ahead_of_tail, u_of};
 use crate::own_gliders::is_own;

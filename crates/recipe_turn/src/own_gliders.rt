@@ -7,7 +7,8 @@ ghost use Rattle.life_cells.specs.Listed.{listed};
 ghost use Rattle.life_cells.specs.Cells.{alive};
 ghost use Rattle.book_parts.specs.Limits.{AreProper, IsFrom};
 ghost use Rattle.recipe_turn.specs.Turn.{gliders};
-ghost use Rattle.recipe_turn.specs.Range.{IsDelay, IsWithinReach};
+ghost use Rattle.recipe_turn.specs.Range.{IsWithinReach};
+ghost use Rattle.book_parts.specs.Proper.{IsDelay};
 
 use crate::diagonals::ahead_of_tail;
 use book_parts::Settings;

@@ -8,11 +8,11 @@ ghost use Rattle.recipe_turn.specs.Turn.{IsSound, AreFewDelays};
 ghost use Rattle.recipe_turn.specs.Range.{IsWithinLimits};
 ghost use Rattle.recipe_turn.specs.Refusals.{TurnIsRefused};
 
-use crate::ending::{stated_end, test_front};
 use crate::evolution::evolve;
 use crate::gaps::test_gaps;
 use crate::own_gliders::starting_gliders;
 use crate::refusal::TurnRefusal;
+use crate::turn_ends::{stated_end, test_front};
 use book_parts::{RawTurn, Settings};
 use life_cells::CellSet;
 use life_steps::Steps;

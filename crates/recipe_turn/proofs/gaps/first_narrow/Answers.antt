@@ -1,7 +1,7 @@
 use Rattle.std.proofs.Common.{◌≡◌, ℤ, pos, ◌-◌, arith, w64, of_z}
 use Rattle.std.proofs.lemmas.Int.{ints}
-use Rattle.recipe_turn.specs.Range.{IsDelay}
-use Rattle.recipe_turn.proofs.Delays.{each_at}
+use Rattle.book_parts.specs.Proper.{IsDelay}
+use Rattle.life_plane.specs.ListLaws.{each_at}
 use Rattle.recipe_turn.proofs.Spacing.{first_is_narrow, is_narrow, apart_first, apart_more, apart_all}
 use Rattle.recipe_turn.proofs.gaps.first_narrow.Goals as goal
 

@@ -1,7 +1,7 @@
 use Rattle.std.proofs.Common.{◌-◌, pos, length, refl, arith}
 use Rattle.std.proofs.lemmas.Int.{ints}
-use Rattle.recipe_turn.specs.Range.{IsDelay}
-use Rattle.recipe_turn.proofs.Delays.{each_at}
+use Rattle.book_parts.specs.Proper.{IsDelay}
+use Rattle.life_plane.specs.ListLaws.{each_at}
 use Rattle.recipe_turn.proofs.Spacing.{spaced, not_spaced}
 use Rattle.recipe_turn.proofs.gaps.test_gaps.Goals as goal
 

@@ -5,7 +5,7 @@ use Rattle.life_cells.specs.Cells.{in_order, alive}
 use Rattle.life_cells.specs.Laws.{alive-in_order, rising-in_order}
 use Rattle.recipe_turn.specs.Turn.{IsInReach}
 use Rattle.life_cells.specs.PlaceLaws.{live_at, at_place, each_more, each_live}
-use Rattle.recipe_turn.proofs.Comparisons.{true≢false}
+use Rattle.std.proofs.lemmas.Bool.{true≢false}
 use Rattle.recipe_turn.proofs.Ranges.{live_within}
 use Rattle.life_cells.specs.FirstLaws.{first_place}
 use Rattle.recipe_turn.proofs.limits.first_past_reach.Goals as goal

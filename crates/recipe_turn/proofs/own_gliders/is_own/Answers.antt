@@ -1,6 +1,7 @@
 use Rattle.std.proofs.Common.{◌∙◌, pos, subst, sym, ap, refl}
-use Rattle.recipe_turn.specs.Range.{IsDelay}
-use Rattle.recipe_turn.proofs.Delays.{each_at, delay_read, own, own_here, own_later, own_none}
+use Rattle.life_plane.specs.ListLaws.{each_at}
+use Rattle.book_parts.specs.Proper.{IsDelay}
+use Rattle.recipe_turn.proofs.Delays.{delay_read, own, own_here, own_later, own_none}
 use Rattle.recipe_turn.proofs.own_gliders.is_own.Goals as goal
 
 pub loop-delay-init : goal.loop-delay-init

@@ -4,8 +4,9 @@ use Rattle.life_cells.specs.declared.cell.Cell.{Cell}
 use Rattle.life_cells.specs.Cells.{Cells, alive, from_list}
 use Rattle.life_cells.specs.Listed.{listed}
 use Rattle.life_cells.specs.Laws.{alive-from_list}
-use Rattle.recipe_turn.specs.Range.{IsDelay}
-use Rattle.recipe_turn.proofs.Delays.{each_at, delay_read, own, gliders_more, gliders_all}
+use Rattle.life_plane.specs.ListLaws.{each_at}
+use Rattle.book_parts.specs.Proper.{IsDelay}
+use Rattle.recipe_turn.proofs.Delays.{delay_read, own, gliders_more, gliders_all}
 use Rattle.recipe_turn.proofs.own_gliders.starting_gliders.Goals as goal
 
 pub loop-delay-init : goal.loop-delay-init

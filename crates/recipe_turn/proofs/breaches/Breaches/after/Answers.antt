@@ -1,6 +1,6 @@
 use Rattle.std.proofs.Common.{refl}
 use Rattle.life_cells.specs.Cells.{alive}
-use Rattle.recipe_turn.proofs.Looking.{none_keeps, clear_keeps, left_within, right_within}
+use Rattle.recipe_turn.proofs.KnownBounds.{none_keeps, clear_keeps, left_within, right_within}
 use Rattle.recipe_turn.proofs.breaches.Breaches.after.Goals as goal
 
 pub returns-in_default : goal.returns-in_default

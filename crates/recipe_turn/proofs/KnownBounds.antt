@@ -12,7 +12,7 @@ use Rattle.recipe_turn.specs.Turn.{IsInReach, IsAheadOrOwn}
 use Rattle.recipe_turn.specs.Breaches.{AllKeep, KeepsReach, IsKnown, AreKnown}
 use Rattle.recipe_turn.specs.declared.breaches.Breach.{Breach}
 use Rattle.recipe_turn.specs.declared.breaches.Breaches.{Breaches}
-use Rattle.recipe_turn.proofs.Comparisons.{true≢false}
+use Rattle.std.proofs.lemmas.Bool.{true≢false}
 
 -- a generation that keeps the bound
 pub known_kept : (Keeps : ℕ → ℤ → ℤ → Type 0) (start s : Plane) (t : ℕ) (found : Option Breach) → s ≡ run t start → AllKeep (Keeps t) s → IsKnown Keeps start t found →

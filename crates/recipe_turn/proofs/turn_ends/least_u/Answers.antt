@@ -2,7 +2,7 @@ use Rattle.std.proofs.Common.{◌≡◌, ◌∙◌, pos, ap, arith, w64}
 use Rattle.std.specs.Int.{int_div_euclid}
 use Rattle.std.proofs.lemmas.Int.{ints, to_z-of_z}
 use Rattle.recipe_turn.proofs.Fronts.{quarters_within}
-use Rattle.recipe_turn.proofs.ending.least_u.Goals as goal
+use Rattle.recipe_turn.proofs.turn_ends.least_u.Goals as goal
 
 pub returns : goal.returns
 returns c =

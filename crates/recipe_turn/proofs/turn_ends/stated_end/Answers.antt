@@ -4,7 +4,7 @@ use Rattle.life_cells.specs.Laws.{alive-empty}
 use Rattle.recipe_turn.specs.Turn.{turn_end}
 use Rattle.recipe_turn.proofs.NamedKinds.{thrown_end}
 use Rattle.recipe_turn.proofs.Fronts.{throw_limits, coordinate_read, index_read}
-use Rattle.recipe_turn.proofs.ending.stated_end.Goals as goal
+use Rattle.recipe_turn.proofs.turn_ends.stated_end.Goals as goal
 
 pub returns-in-Close : goal.returns-in-Close
 returns-in-Close c = ap alive c.empty.ensures ∙ alive-empty ∙ ap (λ e. turn_end e (alive c.args.next.now)) (sym c.in-Close.is)
