@@ -2,6 +2,7 @@
 use Rattle.std.proofs.Common.{◌≡◌, ◌⊎◌, ℕ, suc, ◌+◌, ◌<◌, ◌≤◌, List, [], ◌∷◌, ◌++◌, length, get_or, inl, inr, refl, sym, ap, subst, ◌∙◌, arith}
 use Rattle.std.proofs.lemmas.List.{get_or_append_left, get_or_push, length_push, length-append, append_assoc}
 use Rattle.std.proofs.lemmas.Bool.{cases_lt, cases_order}
+use Rattle.life_plane.specs.NumberLaws.{lt_or_same}
 use Rattle.elbow_graph.specs.declared.elbow.Elbow.{Elbow}
 use Rattle.elbow_graph.specs.declared.found.Label.{Label}
 use Rattle.elbow_graph.specs.ListOrder.{IsAtMost, IsBefore}
@@ -26,9 +27,6 @@ tried_cases place bound more m k (inr h) = by (cases_lt k bound)
 both : {A B : Type 0} (P : A → B → Type 0) {a c : A} {b d : B} → a ≡ c → b ≡ d → P a b → P c d
 both P {a} {c} {b} {d} e f p = subst (λ x. P x d) e (subst (λ y. P a y) f p)
 
-lt_or_is : (m n : ℕ) → m < n + 1 → (m < n) ⊎ (m ≡ n)
-lt_or_is m n lt = grind arith
-
 labelled_on : (lists : List (List ℕ)) (labels : List Label) (place number : ℕ) → AreLabelled labels lists → ArePrior labels → place ≤ length labels →
     AreLabelled (labels ++ label place number ∷ []) (lists ++ (get_or lists place [] ++ number ∷ []) ∷ [])
 labelled_on lists labels place number was prior within =
@@ -36,7 +34,7 @@ labelled_on lists labels place number was prior within =
     record {
       as_many = omega (arith, length_push lists path, length_push labels (label place number), was.as_many);
       first = get_or_append_left lists (path ∷ []) [] 0 (omega (arith, was.as_many)) ∙ was.first;
-      next = λ k lt. next_at k (lt_or_is k (length labels) (omega (arith, length_push labels (label place number))));
+      next = λ k lt. next_at k (lt_or_same k (length labels) (omega (arith, length_push labels (label place number))));
     }
   where
     next_at : (k : ℕ) → (k < length labels) ⊎ (k ≡ length labels) → get_or (lists ++ (get_or lists place [] ++ number ∷ []) ∷ []) (k + 1) []
@@ -56,7 +54,7 @@ labelled_on lists labels place number was prior within =
         ∙ ap (λ (m : Label). get_or (lists ++ (get_or lists place [] ++ number ∷ []) ∷ []) m.before [] ++ m.number ∷ []) (sym mark)
 
 prior_on : (labels : List Label) (place number : ℕ) → ArePrior labels → place ≤ length labels → ArePrior (labels ++ label place number ∷ [])
-prior_on labels place number was within k lt = at (lt_or_is k (length labels) (omega (arith, length_push labels (label place number))))
+prior_on labels place number was within k lt = at (lt_or_same k (length labels) (omega (arith, length_push labels (label place number))))
   where
     at : (k < length labels) ⊎ (k ≡ length labels) → (label_at (labels ++ label place number ∷ []) k).before ≤ k
     at (inl lt) = let P : Label → Type 0 = λ m. m.before ≤ k in subst P (sym (get_or_append_left labels (label place number ∷ []) (label 0 0) k lt)) (was k lt)
@@ -142,10 +140,10 @@ module _ (Next : ℕ → Elbow → Elbow → Type 0) (Last : ℕ → Elbow → T
         prior = prior_on labels place number was.prior (omega (arith, was.as_many));
         as_many = omega (arith, more, was.as_many, length_push labels (label place number));
         first = sym (elbow 0 (omega arith)) ∙ was.first;
-        leads = λ m lt. leads_at m (lt_or_is m (length elbows) (omega arith)) list elbow list_last elbow_last;
-        rising = λ a b ab lt. rising_at a b ab (lt_or_is b (length elbows) (omega arith)) list list_last;
-        below = λ _ m lt. subst (λ js. IsBefore (get_or grown m []) (js ++ suc number ∷ [])) (list place small) (below_at m (lt_or_is m (length elbows) (omega arith)) list list_last);
-        closed = λ m k to lt tried moves. closed_at m k to (lt_or_is m (length elbows) (omega arith)) (tried_cases place bound (suc number) m k tried) moves list elbow list_last elbow_last found (omega arith);
+        leads = λ m lt. leads_at m (lt_or_same m (length elbows) (omega arith)) list elbow list_last elbow_last;
+        rising = λ a b ab lt. rising_at a b ab (lt_or_same b (length elbows) (omega arith)) list list_last;
+        below = λ _ m lt. subst (λ js. IsBefore (get_or grown m []) (js ++ suc number ∷ [])) (list place small) (below_at m (lt_or_same m (length elbows) (omega arith)) list list_last);
+        closed = λ m k to lt tried moves. closed_at m k to (lt_or_same m (length elbows) (omega arith)) (tried_cases place bound (suc number) m k tried) moves list elbow list_last elbow_last found (omega arith);
         none = λ m k before lt last. was.none m k before (omega (arith, was.within)) (subst (Last k) (sym (elbow m (omega (arith, was.within)))) last);
         within = omega (arith, was.within);
       }
@@ -189,7 +187,7 @@ module _ (Next : ℕ → Elbow → Elbow → Type 0) (Last : ℕ → Elbow → T
       closed_at m k to (inl lt) (inl tried) moves list elbow list_last elbow_last found longer =
           subst (λ js. IsFoundBy (elbows ++ next ∷ []) grown_of from to (js ++ k ∷ [])) (list m lt)
           (found to (get_or was.lists m [] ++ k ∷ []) (was.closed m k to lt tried (subst (λ e. Next k e to) (sym (elbow m lt)) moves)))
-      closed_at m k to (inl lt) (inr new) moves list elbow list_last elbow_last found longer = by (lt_or_is k number (let lt = new.1.1 in omega arith))
+      closed_at m k to (inl lt) (inr new) moves list elbow list_last elbow_last found longer = by (lt_or_same k number (let lt = new.1.1 in omega arith))
         where
           here_by : Next k (get_or elbows place from) to
           here_by = subst (λ n. Next k (get_or elbows n from) to) new.0 (subst (λ e. Next k e to) (sym (elbow m lt)) moves)
@@ -220,7 +218,7 @@ module _ (Next : ℕ → Elbow → Elbow → Type 0) (Last : ℕ → Elbow → T
     rising = was.rising;
     below = λ later m lt. before_on _ _ _ (was.below small m lt) (before_with (get_or was.lists place []) (get_or was.lists (place + 1) []) bound 0 (was.rising place (place + 1) (omega arith) later));
     closed = λ m k to lt tried next. closed_at m k to lt tried next;
-    none = λ m k before lt last. none_at m k (lt_or_is m place before) lt last;
+    none = λ m k before lt last. none_at m k (lt_or_same m place before) lt last;
     within = omega arith;
   }
     where
@@ -230,7 +228,7 @@ module _ (Next : ℕ → Elbow → Elbow → Type 0) (Last : ℕ → Elbow → T
       closed_here m k to lt (inr is) (inr le) next = absurd (over k to le (subst (λ n. Next k (get_or elbows n from) to) is next))
 
       closed_at : (m k : ℕ) (to : Elbow) → m < length elbows → IsTried (place + 1) 0 m k → Next k (get_or elbows m from) to → IsFoundBy elbows was.lists from to (get_or was.lists m [] ++ k ∷ [])
-      closed_at m k to lt (inl before) next = closed_here m k to lt (lt_or_is m place before) (cases_lt k bound) next
+      closed_at m k to lt (inl before) next = closed_here m k to lt (lt_or_same m place before) (cases_lt k bound) next
       closed_at m k to lt (inr h) next = let less = h.1 in absurd (omega arith)
 
       none_at : (m k : ℕ) → (m < place) ⊎ (m ≡ place) → m < length elbows → Last k (get_or elbows m from) → ⊥

@@ -1,8 +1,9 @@
 -- What ends a list at an elbow.
-use Rattle.std.proofs.Common.{◌≡◌, ◌↔◌, ℕ, Bool, List, [], ◌∷◌, inl, inr, Option, Some, ℤ, pos, ◌+ℤ◌, ◌*ℤ◌, IsTrue, sym, ap, subst, ◌∙◌}
+use Rattle.std.proofs.Common.{◌≡◌, ◌↔◌, ℕ, Bool, List, [], ◌∷◌, inl, inr, Some, ℤ, pos, ◌+ℤ◌, ◌*ℤ◌, IsTrue, sym, ap, subst, ◌∙◌}
 use Rattle.std.specs.List.{slice_get}
+use Rattle.life_plane.specs.ListLaws.{same_item}
 use Rattle.book_parts.specs.declared.turn.TurnEnd.{TurnEnd}
-use Rattle.book_parts.specs.declared.turn.TurnEnd.TheVariants.{Close, Move, Emit}
+use Rattle.book_parts.specs.declared.turn.TurnEnd.TheVariants.{Emit}
 use Rattle.elbow_graph.specs.declared.elbow.Elbow.{Elbow}
 use Rattle.elbow_graph.specs.declared.exit.Exit.{Exit}
 use Rattle.elbow_graph.specs.declared.goal.Goal.{Goal}
@@ -13,7 +14,6 @@ use Rattle.elbow_graph.specs.declared.outcome.Outcome.{Outcome}
 use Rattle.elbow_graph.specs.declared.outcome.Outcome.TheVariants.{Route}
 use Rattle.elbow_graph.specs.Answers.{AnswersSo}
 use Rattle.elbow_graph.specs.Search.{EndsAt}
-use Rattle.elbow_graph.proofs.Numbers.{same_item}
 
 -- a throw on the lane that is wanted, by whether the elbow stays within the span
 pub throw_ends : (wanted span from : ℤ) (end : TurnEnd) (kind : ℕ) (advance lane j : ℤ) (stays : Bool) (used_wanted used_span used_from used_advance used_lane : ℤ) → end ≡ Emit kind advance lane j →

@@ -1,12 +1,9 @@
 -- Items by their numbers and by their places.
-use Rattle.std.proofs.Common.{◌≡◌, ◌⊎◌, inl, inr, ℕ, zero, suc, ◌+◌, ◌<◌, ◌≤◌, true, false, List, [], ◌∷◌, length, Option, Some, None, refl, sym, ap, subst, ◌∙◌, arith}
+use Rattle.std.proofs.Common.{◌≡◌, ◌⊎◌, inl, inr, ℕ, zero, suc, ◌+◌, ◌<◌, ◌≤◌, List, [], ◌∷◌, length, Some, None, refl, sym, ap, subst, arith}
 use Rattle.std.specs.List.{slice_get}
 use Rattle.std.proofs.lemmas.Bool.{cases_lt}
-use Rattle.std.proofs.lemmas.Option.{slice_get_within}
+use Rattle.life_plane.specs.ListLaws.{same_item}
 use Rattle.elbow_graph.specs.Numbered.{IsNumbered}
-
-pub same_item : {X : Type 0} {x y : X} {o : Option X} → o ≡ Some x → o ≡ Some y → x ≡ y
-same_item p q = cc
 
 pub numbered_from_at : {X : Type 0} (xs : List X) (i : ℕ) (x : X) → slice_get xs i ≡ Some x → IsNumbered xs (suc i) x
 numbered_from_at [] i x h = absurd (cc)
@@ -31,10 +28,3 @@ next_lacks Has from place before here k low high has = by (cases_lt k place)
     by : (k < place) ⊎ (place ≤ k) → ⊥
     by (inl lt) = before k low lt has
     by (inr le) = let is : k ≡ place = omega arith in here (subst Has is has)
-
--- no place from the end on has an item
-pub none_past : {X : Type 0} (xs : List X) (k : ℕ) (x : X) → length xs ≤ k → slice_get xs k ≡ Some x → ⊥
-none_past xs k x long at = let lt = slice_get_within xs k x at in omega arith
-
-pub true_not_false : true ≡ false → ⊥
-true_not_false h = cc

@@ -1,9 +1,11 @@
 -- The turns tried at one elbow of a search.
-use Rattle.std.proofs.Common.{◌≡◌, ℕ, zero, suc, ◌+◌, ◌-◌, ◌<◌, ◌≤◌, ℤ, List, [], ◌∷◌, ◌++◌, length, get_or, Option, Some, None, ◌⊎◌, inl, inr, refl, sym, ap, subst, ◌∙◌, add-one, arith}
+use Rattle.std.proofs.Common.{◌≡◌, ℕ, suc, ◌+◌, ◌-◌, ◌<◌, ◌≤◌, ℤ, List, [], ◌∷◌, ◌++◌, length, get_or, Option, Some, None, ◌⊎◌, inl, inr, sym, ap, subst, ◌∙◌, add-one, arith}
 use Rattle.std.specs.List.{slice_get, Contains}
 use Rattle.std.proofs.lemmas.List.{get_or_default}
 use Rattle.std.proofs.lemmas.Bool.{cases_lt}
 use Rattle.std.proofs.lemmas.Option.{slice_get_within, get_or_from_slice_get}
+use Rattle.life_plane.specs.ListLaws.{same_item, at_left}
+use Rattle.life_plane.specs.NumberLaws.{lt_or_same}
 use Rattle.elbow_graph.specs.declared.elbow.Elbow.{Elbow}
 use Rattle.elbow_graph.specs.declared.exit.Exit.{Exit}
 use Rattle.elbow_graph.specs.declared.goal.Goal.{Goal}
@@ -12,14 +14,9 @@ use Rattle.elbow_graph.specs.Elbows.{Leads}
 use Rattle.elbow_graph.specs.Goals.{MayPass, Passes, Ends, IsLeastRoute}
 use Rattle.elbow_graph.specs.Labels.{label, AreLabelled, Adds}
 use Rattle.elbow_graph.specs.Search.{IsLeastFrom, PassesAt, EndsAt, IsSearched}
-use Rattle.elbow_graph.proofs.Numbers.{same_item, numbered_from_at, at_from_numbered}
+use Rattle.elbow_graph.proofs.Numbers.{numbered_from_at, at_from_numbered}
 use Rattle.elbow_graph.proofs.Outcomes.{least_ending}
 use Rattle.elbow_graph.proofs.ByBreadth.{breadth_stays, breadth_grows, breadth_turns}
-
-at_left : {X : Type 0} (xs ys : List X) (k : ℕ) → k < length xs → slice_get (xs ++ ys) k ≡ slice_get xs k
-at_left [] ys k lt = absurd (omega arith)
-at_left (x ∷ xs) ys zero lt = refl
-at_left (x ∷ xs) ys (suc k) lt = at_left xs ys k (omega arith)
 
 found_place : (elbows : List Elbow) (next from : Elbow) → Contains elbows next → (a : ℕ) × ((a < length elbows) × (get_or elbows a from ≡ next))
 found_place elbows next from there = (there.0, (there.1, get_or_default elbows there.0 from next there.1 ∙ there.2))
@@ -66,10 +63,7 @@ module _ (exits : List Exit) (span : ℤ) (goal : Goal) (from : Elbow) (place : 
         there = passes_at exits span goal k here to passes_here
 
         order : (i : ℕ) → k ≡ suc i → (i < index) ⊎ (i ≡ index)
-        order i is = lt_or_is i index (omega arith)
-          where
-            lt_or_is : (m n : ℕ) → m < n + 1 → (m < n) ⊎ (m ≡ n)
-            lt_or_is m n lt = grind arith
+        order i is = lt_or_same i index (omega arith)
 
         by : (i : ℕ) → k ≡ suc i → PassesAt exits goal here.kind i → (i < index) ⊎ (i ≡ index) → (k ≡ suc index) × Leads span exit here to
         by i is at (inl less) = absurd (was.least.1.1 i (omega arith) less at)

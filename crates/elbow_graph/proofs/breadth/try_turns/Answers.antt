@@ -1,4 +1,4 @@
-use Rattle.std.proofs.Common.{ℤ, ◌≡◌, ◌+◌, length, Option, ℕ, sym, subst, refl, arith, w64, to_z, of_z}
+use Rattle.std.proofs.Common.{ℤ, ◌+◌, Option, ℕ, sym, subst, refl, arith, w64, to_z, of_z}
 use Rattle.std.proofs.lemmas.Int.{ints}
 use Rattle.std.proofs.lemmas.Option.{slice_get_read}
 use Rattle.elbow_graph.specs.declared.found.Found.{Found}

@@ -1,4 +1,3 @@
-use Rattle.std.proofs.Common.{arith}
 use Rattle.elbow_graph.proofs.Ending.{not_a_route}
 use Rattle.elbow_graph.proofs.states.elbow_states.Goals as goal
 

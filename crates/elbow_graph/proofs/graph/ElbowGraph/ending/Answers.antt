@@ -1,10 +1,11 @@
-use Rattle.std.proofs.Common.{ℤ, ℕ, ◌≤◌, ◌<◌, ◌≡◌, length, true, false, sym, ap, subst, ◌∙◌, arith}
+use Rattle.std.proofs.Common.{ℤ, ℕ, ◌≤◌, ◌<◌, ◌≡◌, length, sym, ap, subst, ◌∙◌, arith}
 use Rattle.std.specs.List.{slice_get}
 use Rattle.std.proofs.lemmas.Int.{ints}
 use Rattle.std.proofs.lemmas.Option.{slice_get-get_or, slice_get_within}
+use Rattle.std.proofs.lemmas.Bool.{true≢false}
 use Rattle.elbow_graph.specs.Search.{EndsAt}
 use Rattle.elbow_graph.proofs.Ending.{ends_here, ends_not_here}
-use Rattle.elbow_graph.proofs.Numbers.{next_lacks, true_not_false}
+use Rattle.elbow_graph.proofs.Numbers.{next_lacks}
 use Rattle.elbow_graph.proofs.graph.ElbowGraph.ending.Goals as goal
 
 pub returns-then-ends : goal.returns-then-ends
@@ -16,7 +17,7 @@ returns-then-ends c =
 pub loop-place-preserved : goal.loop-place-preserved
 loop-place-preserved c =
     let at = ap (λ xs. slice_get xs c.loop-place.place) (sym c.deref-exit-items.ensures.value) ∙ slice_get-get_or c.deref-exit-items.result.now c.loop-place.place _ c.loop-place-test.true in
-    next_lacks _ 0 c.loop-place.place c.loop-place.invariant (ends_not_here _ _ _ _ _ _ _ (omega (arith, ints)) at (λ ends. true_not_false (sym (c.ends.ensures.1 ends) ∙ c.if-ends.false)))
+    next_lacks _ 0 c.loop-place.place c.loop-place.invariant (ends_not_here _ _ _ _ _ _ _ (omega (arith, ints)) at (λ ends. true≢false (sym (c.ends.ensures.1 ends) ∙ c.if-ends.false)))
 
 pub returns : goal.returns
 returns c =
