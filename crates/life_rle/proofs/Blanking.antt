@@ -1,7 +1,7 @@
 -- A text with its comment lines made blank, one byte after the other.
 use Rattle.std.proofs.Common.{◌≡◌, ◌≢◌, ℕ, ◌&&◌, Bool, true, false, List, [], ◌∷◌, ◌++◌, length, map, refl, sym, ap, ◌∙◌, subst, inl, inr, arith, eqb}
 use Rattle.std.specs.List.{AllByRecursion, slice_split, onto_first, join_with_byte}
-use Rattle.std.proofs.lemmas.List.{append_assoc, append-nil}
+use Rattle.std.proofs.lemmas.List.{append-nil}
 use Rattle.std.proofs.lemmas.List.Splits.{slice_split-cons_yes, slice_split-cons_no}
 use Rattle.std.proofs.lemmas.Bool.{ne_eqb, eqb-false, and_right}
 use Rattle.std.proofs.lemmas.Bool.Decides.{eqb_tells}
@@ -89,17 +89,6 @@ blanked_is text =
 
 pub blanked_length : (text : List ℕ) → length (blanked text) ≡ length text
 blanked_length text = ap length (blanked_is text) ∙ seen_length true false text
-
--- ---- one byte after the other
-
-pub seen_push : (out rest more whole : List ℕ) (byte : ℕ) (starts hidden : Bool) → rest ≡ byte ∷ more → out ++ seen starts hidden rest ≡ whole
-    → (out ++ (shown (is_hidden starts hidden byte) byte ∷ [])) ++ seen (eqb byte 10) (is_hidden starts hidden byte) more ≡ whole
-seen_push out rest more whole byte starts hidden split h =
-    append_assoc out (shown (is_hidden starts hidden byte) byte ∷ []) (seen (eqb byte 10) (is_hidden starts hidden byte) more)
-    ∙ ap (λ (t : List ℕ). out ++ seen starts hidden t) (sym split) ∙ h
-
-pub seen_all : (out text : List ℕ) (starts hidden : Bool) (rest : List ℕ) → rest ≡ [] → out ++ seen starts hidden rest ≡ blanked text → out ≡ blanked text
-seen_all out text starts hidden rest none h = sym (append-nil out) ∙ ap (λ (t : List ℕ). out ++ seen starts hidden t) (sym none) ∙ h
 
 -- ---- a text without comments
 

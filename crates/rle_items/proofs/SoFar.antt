@@ -11,16 +11,15 @@ use Rattle.rle_items.specs.declared.item.Item.{Item}
 use Rattle.rle_items.specs.declared.item.Tag.TheVariants.{Alive}
 use Rattle.rle_items.specs.declared.cursor.Cursor.{Cursor}
 use Rattle.rle_items.specs.declared.error.BodyError.{BodyError}
-use Rattle.rle_items.specs.declared.error.BodyError.TheVariants.{BadItem, BadCount, NoEnd, TooFar, TooMany, Memory}
 use Rattle.rle_items.specs.Items.{rows_of, live, is_row_end, AreCells}
 use Rattle.rle_items.specs.ItemLaws.{rows_push, columns_push_end, columns_push_other, spells_push, reach_at_place, fine_none, fine_push}
 use Rattle.rle_items.specs.Spelling.{SpellsItem}
 use Rattle.rle_items.specs.SpellingLaws.{count_some, tag_behind}
 use Rattle.rle_items.specs.Reach.{IsInReach, cursor_behind}
 use Rattle.rle_items.specs.Gaps.{IsAtEnd}
-use Rattle.rle_items.specs.ItemFaults.{BeginsAt, IsReadTo, IsFault, ItemsStopWith}
+use Rattle.rle_items.specs.ItemFaults.{IsReadTo, IsFault, ItemsStopWith}
 use Rattle.rle_items.specs.Read.{IsItemAt, IsRead}
-use Rattle.rle_items.specs.Cursor.{IsBehind, stands_at, IsWithin, Passes, HasRoom, HasMoved, item_cells}
+use Rattle.rle_items.specs.Cursor.{IsBehind, stands_at, IsWithin, HasRoom, HasMoved, item_cells}
 use Rattle.rle_items.specs.DrawnLaws.{IsDrawn, drawn_none, drawn_push}
 
 -- ---- the cursor
@@ -135,38 +134,6 @@ module _ (Gap : List ℕ → Type 0) (text : List ℕ) (place : Cell) (body : Li
           drawn = subst (λ (e : Cell). IsDrawn place (items ++ (item ∷ [])) (cells ++ item_cells e item)) (sym (first_is ∙ stands_behind place items c so_far.behind))
               (drawn_push place items item cells (count_some next.next.digits item.count next.next.count) so_far.drawn);
         }
-
-    limit_fault : (e : BodyError) → Passes place d at e → IsFault Gap text place rest so_far.items e
-    limit_fault (TooFar there) p = record {
-      item = item;
-      tag = next.tag;
-      more = more;
-      next = next.next;
-      far = λ near. p.0 (subst IsInReach (sym (stands_behind place (so_far.items ++ (item ∷ [])) d (moves so_far.items so_far.behind))) near);
-      tag_at = subst (λ (n : ℕ). BeginsAt text (next.tag ∷ more) n) (sym p.1) next.tag_at;
-    }
-    limit_fault (TooMany count) p =
-        let behind = moves so_far.items so_far.behind in
-        record {
-          item = item;
-          tag = next.tag;
-          more = more;
-          next = next.next;
-          near = subst IsInReach (stands_behind place (so_far.items ++ (item ∷ [])) d behind) p.0;
-          count_is = p.1.1 ∙ behind.live;
-          many = let q = p.1.0 in let r = p.1.1 in omega arith;
-        }
-    limit_fault (BadItem there) p = absurd p
-    limit_fault (BadCount there) p = absurd p
-    limit_fault NoEnd p = absurd p
-    limit_fault Memory p = absurd p
-
-    -- a limit that the item passes is where the reading stops
-    pub stops_at_limit : (e : BodyError) → Passes place d at e → ItemsStopWith Gap text place body e
-    stops_at_limit e p = record { items = so_far.items; rest = rest; read = so_far.read; fault = limit_fault e p }
-
-  pub stops_without_memory : (rest : List ℕ) (cursor : Cursor) (cells : List Cell) (e : BodyError) → e ≡ Memory → IsSoFar rest cursor cells → ItemsStopWith Gap text place body e
-  stops_without_memory rest cursor cells e is h = subst (λ (e : BodyError). ItemsStopWith Gap text place body e) (sym is) (record { items = h.items; rest = rest; read = h.read; fault = tt })
 
   -- a fault at the front of the rest is where the reading stops
   pub stops_at_fault : (rest : List ℕ) (cursor : Cursor) (cells : List Cell) (e : BodyError) → IsSoFar rest cursor cells
