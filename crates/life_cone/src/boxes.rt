@@ -15,7 +15,7 @@ pub(crate) struct Span {
     pub high: i64,
 }
 
-// The x of a box's cells.
+/// The x of a box's cells.
 fn columns(bounds: Bounds) -> Span
     ensures { result ≡ record { low = bounds.left; high = bounds.right } }
 {
@@ -25,7 +25,7 @@ fn columns(bounds: Bounds) -> Span
     }
 }
 
-// The y of a box's cells.
+/// The y of a box's cells.
 fn rows(bounds: Bounds) -> Span
     ensures { result ≡ record { low = bounds.top; high = bounds.bottom } }
 {
@@ -35,14 +35,14 @@ fn rows(bounds: Bounds) -> Span
     }
 }
 
-// Whether the span has no number.
+/// Whether the span has no number.
 fn is_empty(span: Span) -> bool
     ensures { IsTrue result ↔ (span.high <ℤ span.low) }
 {
     span.high < span.low
 }
 
-// Whether the span b begins 3 or more past the end of the span a.
+/// Whether the span b begins 3 or more past the end of the span a.
 fn is_well_before(a: Span, b: Span) -> bool
     requires { IsSpanInRange (2 ^ 60) a }
     ensures { IsTrue result ↔ ((a.high +ℤ pos 3) ≤ℤ b.low) }
@@ -50,7 +50,7 @@ fn is_well_before(a: Span, b: Span) -> bool
     a.high + 3 <= b.low
 }
 
-// Whether no number of the one span is within 2 of a number of the other.
+/// Whether no number of the one span is within 2 of a number of the other.
 fn spans_apart(a: Span, b: Span) -> bool
     requires a_in_range { IsSpanInRange (2 ^ 60) a }
     requires b_in_range { IsSpanInRange (2 ^ 60) b }

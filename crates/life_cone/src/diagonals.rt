@@ -11,7 +11,7 @@ ghost use Rattle.life_cone.specs.Sides.{IsInStrip, IsBesideStrip, AreSplit};
 
 use life_cells::{Cell, CellSet};
 
-// Whether the cell's v is at most low - 5 or at least high + 5.
+/// Whether the cell's v is at most low - 5 or at least high + 5.
 fn is_beside_strip(cell: Cell, low: i64, high: i64) -> bool
     requires cell { IsCellInRange (2 ^ 60) cell }
     requires low_from { neg_ℤ (pos (2 ^ 60)) ≤ℤ low }
@@ -45,7 +45,7 @@ pub fn strip_apart(cells: &CellSet, low: i64, high: i64) -> bool
     true
 }
 
-// Whether the cell's u is at most the limit.
+/// Whether the cell's u is at most the limit.
 fn is_at_most(cell: Cell, limit: i64) -> bool
     requires { IsCellInRange (2 ^ 60) cell }
     ensures { IsTrue result ↔ UAtMost limit cell.x cell.y }
@@ -53,7 +53,7 @@ fn is_at_most(cell: Cell, limit: i64) -> bool
     cell.x - cell.y <= limit
 }
 
-// Whether the cell's u is at least the limit.
+/// Whether the cell's u is at least the limit.
 fn is_at_least(cell: Cell, limit: i64) -> bool
     requires { IsCellInRange (2 ^ 60) cell }
     ensures { IsTrue result ↔ UAtLeast limit cell.x cell.y }
@@ -61,7 +61,7 @@ fn is_at_least(cell: Cell, limit: i64) -> bool
     cell.x - cell.y >= limit
 }
 
-// Whether each cell's u is at most the limit.
+/// Whether each cell's u is at most the limit.
 fn all_at_most(cells: &CellSet, limit: i64) -> bool
     requires { IsInRange (2 ^ 60) (alive cells.now) }
     ensures { IsTrue result ↔ Each (UAtMost limit) (alive cells.now) }
@@ -74,7 +74,7 @@ fn all_at_most(cells: &CellSet, limit: i64) -> bool
     true
 }
 
-// Whether each cell's u is at least the limit.
+/// Whether each cell's u is at least the limit.
 fn all_at_least(cells: &CellSet, limit: i64) -> bool
     requires { IsInRange (2 ^ 60) (alive cells.now) }
     ensures { IsTrue result ↔ Each (UAtLeast limit) (alive cells.now) }

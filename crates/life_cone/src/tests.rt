@@ -10,7 +10,7 @@ use life_cells::{Bounds, Cell, CellSet, NoMemory};
 use std::alloc::Global;
 use std::test::Fail;
 
-// The set of the cells at these places, each an x and a y.
+/// The set of the cells at these places, each an x and a y.
 fn set_of(alloc: Global, places: &[(i8, i8)]) -> Result<CellSet, NoMemory>
     ensures { IfOk result (λ s. IsInRange 128 (alive s)) }
 {
@@ -22,7 +22,7 @@ fn set_of(alloc: Global, places: &[(i8, i8)]) -> Result<CellSet, NoMemory>
     Ok(set)
 }
 
-// A box by its corners.
+/// A box by its corners.
 fn bounds(left: i8, top: i8, right: i8, bottom: i8) -> Bounds
     ensures { IsBoxInRange (2 ^ 60) result }
 {

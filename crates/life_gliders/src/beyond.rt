@@ -10,7 +10,7 @@ ghost use Rattle.life_gliders.specs.Beyond.{beyond, IsFirstLive, IsPartOf};
 
 use life_cells::{Cell, CellSet};
 
-// Whether the cell's u = x - y is at least five more than the wall.
+/// Whether the cell's u = x - y is at least five more than the wall.
 fn is_beyond(cell: Cell, wall: i64) -> bool
     requires cell { IsCellInRange (2 ^ 58) cell }
     requires low { neg_ℤ (pos 4096) ≤ℤ wall }
@@ -20,7 +20,7 @@ fn is_beyond(cell: Cell, wall: i64) -> bool
     cell.x - cell.y >= wall + 5
 }
 
-// Whether the set has this cell, and it is in front of the wall.
+/// Whether the set has this cell, and it is in front of the wall.
 fn has_beyond(cells: &CellSet, wall: i64, cell: Cell) -> bool
     requires cells { IsInRange (2 ^ 58) (alive cells.now) }
     requires low { neg_ℤ (pos 4096) ≤ℤ wall }
@@ -30,7 +30,7 @@ fn has_beyond(cells: &CellSet, wall: i64, cell: Cell) -> bool
     cells.contains(cell) && is_beyond(cell, wall)
 }
 
-// Whether this cell is listed.
+/// Whether this cell is listed.
 fn has_cell(cells: &[Cell], cell: Cell) -> bool
     ensures { result ≡ listed cells.now cell.x cell.y }
 {
@@ -54,7 +54,7 @@ pub(crate) fn first_beyond(cells: &CellSet, wall: i64) -> Option<Cell>
     None
 }
 
-// Whether the set has each listed cell, and all of them are in front of the wall.
+/// Whether the set has each listed cell, and all of them are in front of the wall.
 fn has_all(cells: &CellSet, wall: i64, list: &[Cell]) -> bool
     requires cells { IsInRange (2 ^ 58) (alive cells.now) }
     requires low { neg_ℤ (pos 4096) ≤ℤ wall }
@@ -69,7 +69,7 @@ fn has_all(cells: &CellSet, wall: i64, list: &[Cell]) -> bool
     true
 }
 
-// Whether each cell of the set that is in front of the wall is listed.
+/// Whether each cell of the set that is in front of the wall is listed.
 fn has_only(cells: &CellSet, wall: i64, list: &[Cell]) -> bool
     requires cells { IsInRange (2 ^ 58) (alive cells.now) }
     requires low { neg_ℤ (pos 4096) ≤ℤ wall }

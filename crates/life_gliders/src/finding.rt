@@ -14,10 +14,10 @@ use crate::glider::cells_on;
 use crate::track::Track;
 use life_cells::{Cell, CellSet};
 
-// For each phase at rest the cell that comes first once it is turned upside down, x before y.
+/// For each phase at rest the cell that comes first once it is turned upside down, x before y.
 const FIRST_OF_PHASE: [(u8, u8); 4] = [(0, 2), (1, 3), (1, 3), (1, 3)];
 
-// The cell of a phase at rest that comes first once the phase is turned upside down.
+/// The cell of a phase at rest that comes first once the phase is turned upside down.
 fn first_at_rest(number: usize) -> (u8, u8)
     requires { number < 4 }
     ensures { cell_at_rest result ≡ first_of_phase number }
@@ -25,7 +25,7 @@ fn first_at_rest(number: usize) -> (u8, u8)
     FIRST_OF_PHASE[number]
 }
 
-// The lane and index of the salvo's glider in this phase whose first cell, in (y,x) order, is this one.
+/// The lane and index of the salvo's glider in this phase whose first cell, in (y,x) order, is this one.
 fn starting_at(first: Cell, number: usize) -> (i64, i64)
     requires first { IsCellInRange (2 ^ 58) first }
     requires number { number < 4 }
@@ -41,7 +41,7 @@ fn starting_at(first: Cell, number: usize) -> (i64, i64)
     (lane, 4 * quarters + number as i64)
 }
 
-// Whether the cells in front of the wall are exactly the salvo's glider of this lane and index.
+/// Whether the cells in front of the wall are exactly the salvo's glider of this lane and index.
 fn is_glider(cells: &CellSet, wall: i64, lane: i64, j: i64) -> bool
     requires cells { IsInRange (2 ^ 58) (alive cells.now) }
     requires low { neg_ℤ (pos 4096) ≤ℤ wall }

@@ -9,7 +9,7 @@ ghost use Rattle.life_gliders.specs.Listing.{glider_list, placed, cell_at_rest};
 use crate::track::Track;
 use life_cells::Cell;
 
-// The four phases of the stream's glider at rest, x before y.
+/// The four phases of the stream's glider at rest, x before y.
 const PHASES: [[(u8, u8); 5]; 4] = [
     [(1, 0), (2, 1), (0, 2), (1, 2), (2, 2)],
     [(0, 1), (2, 1), (1, 2), (2, 2), (1, 3)],
@@ -17,7 +17,7 @@ const PHASES: [[(u8, u8); 5]; 4] = [
     [(1, 1), (2, 2), (3, 2), (1, 3), (2, 3)],
 ];
 
-// The cells of a phase at rest.
+/// The cells of a phase at rest.
 fn phase_at_rest(number: usize) -> [(u8, u8); 5]
     requires { number < 4 }
     ensures { map cell_at_rest result ≡ phase number }
@@ -25,7 +25,7 @@ fn phase_at_rest(number: usize) -> [(u8, u8); 5]
     PHASES[number]
 }
 
-// Where a glider that has travelled so many quarters has a cell of its phase.
+/// Where a glider that has travelled so many quarters has a cell of its phase.
 fn place(track: Track, quarters: i64, rest: (u8, u8)) -> Cell
     requires low { neg_ℤ (pos (2 ^ 61)) ≤ℤ quarters }
     requires high { quarters ≤ℤ pos (2 ^ 61) }
@@ -40,8 +40,8 @@ fn place(track: Track, quarters: i64, rest: (u8, u8)) -> Cell
     }
 }
 
-// The five cells of the glider of index j on a track. The index may be greater than in the public call:
-// that of a glider whose coordinates are within 2^58 can be a little past 2^60.
+/// The five cells of the glider of index j on a track. The index may be greater than in the public call:
+/// that of a glider whose coordinates are within 2^58 can be a little past 2^60.
 pub(crate) fn cells_on(track: Track, j: i64) -> [Cell; 5]
     requires low { neg_ℤ (pos (2 ^ 61)) ≤ℤ j }
     requires high { j ≤ℤ pos (2 ^ 61) }

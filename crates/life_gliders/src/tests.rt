@@ -9,7 +9,7 @@ use life_cells::{Cell, CellSet, NoMemory};
 use std::alloc::Global;
 use std::test::Fail;
 
-// The set of the cells at these places, each an x and a y.
+/// The set of the cells at these places, each an x and a y.
 fn set_of(alloc: Global, places: &[(i8, i8)]) -> Result<CellSet, NoMemory>
     ensures { IfOk result (λ s. IsInRange 128 (alive s)) }
 {

@@ -3,7 +3,7 @@ ghost use Rattle.life_io.specs.MemSinks.{PutsUntil};
 
 use crate::sink::PutError;
 
-// Appends all of the bytes, or fails after the first `due` of them where a number is given.
+/// Appends all of the bytes, or fails after the first `due` of them where a number is given.
 pub(crate) fn append_until(
     due: Option<usize>,
     bytes: &[u8],
@@ -24,7 +24,7 @@ pub(crate) fn append_until(
     }
 }
 
-// Appends all of the bytes, or none where memory runs out.
+/// Appends all of the bytes, or none where memory runs out.
 fn append_piece(bytes: &[u8], into: &mut Vec<u8>) -> Result<(), PutError>
     ensures ok { OnOk result (into.new.items ≡ into.old.items ++ bytes.now) }
     ensures refused { OnErr result (into.new.items ≡ into.old.items) }

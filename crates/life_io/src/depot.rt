@@ -16,7 +16,7 @@ pub enum FetchError {
     Memory,
 }
 
-// The count of faults after this answer, before which it was `faults`: a failure adds one.
+/// The count of faults after this answer, before which it was `faults`: a failure adds one.
 pub(crate) fn fetch_faults(faults: u64, outcome: &Result<(), FetchError>) -> u64
     ensures { result ≡ fetch_faults_after faults outcome.now }
 {

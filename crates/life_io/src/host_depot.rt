@@ -54,7 +54,7 @@ impl<R: Files> Depot for HostDepot<R> {
     }
 }
 
-// Appends what the file of that path has, or its first `limit + 1` bytes where it has more than `limit`.
+/// Appends what the file of that path has, or its first `limit + 1` bytes where it has more than `limit`.
 fn read_file<R: Files>(
     rt: &R,
     path: &str,

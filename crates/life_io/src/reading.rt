@@ -6,11 +6,11 @@ ghost use Rattle.life_io.specs.Taken.{HasTaken};
 use crate::depot::FetchError;
 use std::io::Read;
 
-// How many bytes are read at a time.
+/// How many bytes are read at a time.
 const CHUNK: usize = 16384;
 
-// Appends what the source has left, if it has at most `limit` bytes, and else its first `limit + 1`.
-// An error of the source ends the reading.
+/// Appends what the source has left, if it has at most `limit` bytes, and else its first `limit + 1`.
+/// An error of the source ends the reading.
 pub(crate) fn read_text<S: Read>(
     source: &mut S,
     limit: usize,
@@ -38,7 +38,7 @@ pub(crate) fn read_text<S: Read>(
     }
 }
 
-// One read, of at most `left + 1` bytes, which are appended. Nothing is read at the end alone.
+/// One read, of at most `left + 1` bytes, which are appended. Nothing is read at the end alone.
 fn read_piece<S: Read>(
     source: &mut S,
     left: usize,

@@ -13,7 +13,7 @@ pub enum PutError {
     Memory,
 }
 
-// The count of faults after this answer, before which it was `faults`: a failure adds one.
+/// The count of faults after this answer, before which it was `faults`: a failure adds one.
 pub(crate) fn put_faults(faults: u64, outcome: &Result<(), PutError>) -> u64
     ensures { result ≡ put_faults_after faults outcome.now }
 {

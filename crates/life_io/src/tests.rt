@@ -8,7 +8,7 @@ use std::io::{ErrorKind, Read, Write};
 use std::test::Fail;
 use std::{fs, io};
 
-// The answer of any depot, and what it gives after the byte that the buffer holds before.
+/// The answer of any depot, and what it gives after the byte that the buffer holds before.
 fn fetched<D: Depot>(
     alloc: Global,
     depot: &mut D,
@@ -97,7 +97,7 @@ fn puts_to_a_stream(rt: HostRuntime) {
     assert_eq!(rt; put_to(&mut HostSink::error(rt), b"err\n"), Ok(()));
 }
 
-// A stream that takes or gives one byte at a time, and has an error at one call.
+/// A stream that takes or gives one byte at a time, and has an error at one call.
 #[derive(Drop)]
 struct Faulty {
     calls: u8,

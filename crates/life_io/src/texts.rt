@@ -7,7 +7,7 @@ ghost use Rattle.life_io.specs.Texts.{text_of};
 use crate::depot::FetchError;
 use crate::mem_depot::NamedText;
 
-// The text of that name: of two under one name the first.
+/// The text of that name: of two under one name the first.
 pub(crate) fn find_text<'a>(texts: &'a [NamedText], name: &str) -> Option<&'a [u8]>
     ensures { option_copied result ≡ text_of (map held_text texts.now) name.now }
 {
@@ -19,8 +19,8 @@ pub(crate) fn find_text<'a>(texts: &'a [NamedText], name: &str) -> Option<&'a [u
     None
 }
 
-// Appends the text of that name, or its first `limit + 1` bytes where it has more than `limit`. It
-// fails where it is to fail or the name is not held.
+/// Appends the text of that name, or its first `limit + 1` bytes where it has more than `limit`. It
+/// fails where it is to fail or the name is not held.
 pub(crate) fn append_unless(
     fails: bool,
     texts: &[NamedText],
@@ -45,7 +45,7 @@ pub(crate) fn append_unless(
     }
 }
 
-// Appends the text, or its first `limit + 1` bytes where it has more than `limit`.
+/// Appends the text, or its first `limit + 1` bytes where it has more than `limit`.
 pub(crate) fn append_text(text: &[u8], limit: usize, into: &mut Vec<u8>) -> Result<(), FetchError>
     ensures ok { OnOk result (into.new.items ≡ into.old.items ++ text.now) }
     ensures fits { OnOk result (length text.now ≤ limit) }
@@ -62,7 +62,7 @@ pub(crate) fn append_text(text: &[u8], limit: usize, into: &mut Vec<u8>) -> Resu
     Err(FetchError::TooLong)
 }
 
-// Appends all of the bytes, or none where memory runs out.
+/// Appends all of the bytes, or none where memory runs out.
 pub(crate) fn append_all(bytes: &[u8], into: &mut Vec<u8>) -> Result<(), FetchError>
     ensures ok { OnOk result (into.new.items ≡ into.old.items ++ bytes.now) }
     ensures refused { OnErr result (into.new.items ≡ into.old.items) }

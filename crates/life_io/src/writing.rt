@@ -5,7 +5,7 @@ ghost use Rattle.life_io.specs.Taken.{GainsPrefix};
 use crate::sink::PutError;
 use std::io::Write;
 
-// Writes all of the bytes, or fails at the first error, or where nothing is taken.
+/// Writes all of the bytes, or fails at the first error, or where nothing is taken.
 pub(crate) fn write_piece<W: Write>(sink: &mut W, bytes: &[u8]) -> Result<(), PutError>
     ensures ok { OnOk result (Appends (W.contents sink.old) (W.contents sink.new) bytes.now) }
     ensures failed { OnErr result (GainsPrefix (W.contents sink.old) (W.contents sink.new) bytes.now) }

@@ -4,7 +4,7 @@ use crate::Steps;
 use std::marker::Brand;
 use std::sync::ledger::{Blank, Ledger};
 
-// What counts for any ledger: an engine's calls stand in its place.
+/// What counts for any ledger: an engine's calls stand in its place.
 fn two_generations<L: Ledger>(steps: &mut Steps<L>)
     ensures { steps.new ≡ steps.old + 2 }
 {
@@ -12,8 +12,8 @@ fn two_generations<L: Ledger>(steps: &mut Steps<L>)
     steps.tick();
 }
 
-// What `main` or a test calls with a blank: it makes the counter and hands it on. No parameter is a
-// `&str` or a `char`.
+/// What `main` or a test calls with a blank: it makes the counter and hands it on. No parameter is a
+/// `&str` or a `char`.
 fn with_counter<L: Ledger>(blank: Blank)
     requires name { blank.name ≡ L.name }
     requires parts { blank.parts ≡ L.parts }

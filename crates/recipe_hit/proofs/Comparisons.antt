@@ -5,16 +5,7 @@ use lib.Signed.{le_z}
 use Rattle.std.specs.Int.{int_min, int_max}
 use Rattle.std.specs.Prelude.{FitsSigned}
 use Rattle.std.proofs.lemmas.Int.{ints, to_z-of_z}
-
-pub le_holds : (a b : ℤ) → le_z a b ≡ true → a ≤ℤ b
-le_holds a b h = record { le = subst T (sym h) tt }
-
-test_from_T : (b : Bool) → T b → b ≡ true
-test_from_T true h = refl
-test_from_T false h = absurd h
-
-pub le_test : (a b : ℤ) → a ≤ℤ b → le_z a b ≡ true
-le_test a b h = test_from_T (le_z a b) h.le
+use Rattle.life_plane.specs.NumberLaws.{le_from_test, true_from_T, test_from_le}
 
 -- what holds where a test succeeds
 pub holds_if_true : (b : Bool) (P Q : Type 0) → b ≡ true → MatchBool b P Q → P
@@ -29,8 +20,8 @@ if_ok (Err e) P Q more h = h
 -- a test of two numbers as they are kept decides what hangs on their order
 pub test_decides : (a b x y : ℤ) (P : Type 0) → a ≡ x → b ≡ y → (x ≤ℤ y → P) → (P → x ≤ℤ y) → IsTrue (le_z a b) ↔ P
 test_decides a b x y P ea eb from to = (
-  λ test. from (subst (λ z. x ≤ℤ z) eb (subst (λ z. z ≤ℤ b) ea (le_holds a b test))),
-  λ p. le_test a b (subst (λ z. a ≤ℤ z) (sym eb) (subst (λ z. z ≤ℤ y) (sym ea) (to p))),
+  λ test. from (subst (λ z. x ≤ℤ z) eb (subst (λ z. z ≤ℤ b) ea (le_from_test test))),
+  λ p. test_from_le (subst (λ z. a ≤ℤ z) (sym eb) (subst (λ z. z ≤ℤ y) (sym ea) (to p))),
 )
 
 -- a side of a box of cells, moved out by 8,192, keeps 64 bits

@@ -2,6 +2,7 @@
 use Rattle.std.proofs.Common.{◌≡◌, ℕ, zero, suc, ◌+◌, ◌*◌, ◌-◌, ◌^◌, ◌<◌, ◌≤◌, Bool, true, false, ◌||◌, ℤ, pos, neg_ℤ, ◌+ℤ◌, ◌*ℤ◌, ◌≤ℤ◌, List, [], ◌∷◌, ◌++◌, length, Some, refl, sym, ap, subst, ◌∙◌, arith}
 use Rattle.std.specs.List.{slice_get}
 use Rattle.std.proofs.lemmas.Int.{ints}
+use Rattle.std.proofs.lemmas.Bool.{or_right}
 use Rattle.life_plane.specs.Plane.{Plane}
 use Rattle.life_plane.specs.Salvo.{salvo_glider, salvo_front, salvo_range, salvo_corner}
 use Rattle.life_cells.specs.Cells.{alive}
@@ -85,10 +86,6 @@ start_near lane quarter x y l =
     let r = salvo_range lane (pos 4 *ℤ quarter) x y l in
     let up = c.up in let behind = r.behind in let high = r.high in
     (omega (arith, ints), omega (arith, ints))
-
-or_right : (a b : Bool) → b ≡ true → (a || b) ≡ true
-or_right true b h = refl
-or_right false b h = h
 
 -- the numbers of a hit at a hand are small
 pub small_frame : (n : ℕ) (struck : Plane) (lane : ℤ) (hit : Hit) → n + 8192 ≤ 2 ^ 30 + 2 ^ 19 → IsCoordinate lane → IsInRange n struck → IsHit struck lane hit → IsSmallFrame hit.frame

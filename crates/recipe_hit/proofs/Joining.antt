@@ -2,7 +2,7 @@
 use Rattle.std.proofs.Common.{◌≡◌, ℕ, true, false, Bool, ◌||◌, ℤ, pos, neg_ℤ, Option, Some, None, refl, ap, sym, subst, ◌∙◌, arith, inl, inr, IfSome, IfNone}
 use Rattle.std.specs.Int.{int_min, int_max}
 use Rattle.std.proofs.lemmas.Int.{ints, clamps}
-use Rattle.std.proofs.lemmas.Bool.{or_cases}
+use Rattle.std.proofs.lemmas.Bool.{or_cases, or_left, or_right}
 use Rattle.life_cells.specs.declared.bounds.Bounds.{Bounds}
 use Rattle.life_cells.specs.Boxes.{InBox, Holds, IsLeastBox, IsInRange}
 use Rattle.life_cells.specs.Cells.{Cells, alive, empty}
@@ -13,13 +13,6 @@ use Rattle.recipe_hit.specs.Joins.{IsBoxOf, IsBoxInRange}
 -- the box about two boxes
 abbrev pub join_of : Bounds → Bounds → Bounds
 join_of a b = record { left = int_min a.left b.left; top = int_min a.top b.top; right = int_max a.right b.right; bottom = int_max a.bottom b.bottom }
-
-in_left : (a b : Bool) → a ≡ true → (a || b) ≡ true
-in_left a b h = ap (λ c. c || b) h
-
-in_right : (a b : Bool) → b ≡ true → (a || b) ≡ true
-in_right true b h = refl
-in_right false b h = h
 
 in_join_left : (a b : Bounds) (x y : ℤ) → InBox a x y → InBox (join_of a b) x y
 in_join_left a b x y i = record {
@@ -42,10 +35,10 @@ pub join_least : (a b : Bounds) (s t : Plane) → IsLeastBox a s → IsLeastBox 
 join_least a b s t h k = record {
   holds = record { each = λ x y l. elim (or_cases (s x y) (t x y) l) [ inl p ↦ in_join_left a b x y (h.holds.each x y p) | inr p ↦ in_join_right a b x y (k.holds.each x y p) ] };
   least = λ other out.
-      let u = h.least other (record { each = λ x y l. out.each x y (in_left (s x y) (t x y) l) }) in
-      let v = k.least other (record { each = λ x y l. out.each x y (in_right (s x y) (t x y) l) }) in
+      let u = h.least other (record { each = λ x y l. out.each x y (or_left (s x y) (t x y) l) }) in
+      let v = k.least other (record { each = λ x y l. out.each x y (or_right (s x y) (t x y) l) }) in
       record { left = omega (arith, ints, clamps, u.left, v.left); top = omega (arith, ints, clamps, u.top, v.top); right = omega (arith, ints, clamps, u.right, v.right); bottom = omega (arith, ints, clamps, u.bottom, v.bottom) };
-  lives = (h.lives.0, (h.lives.1.0, in_left (s h.lives.0 h.lives.1.0) (t h.lives.0 h.lives.1.0) h.lives.1.1));
+  lives = (h.lives.0, (h.lives.1.0, or_left (s h.lives.0 h.lives.1.0) (t h.lives.0 h.lives.1.0) h.lives.1.1));
 }
 
 or_false : (a : Bool) → a ≡ (a || false)

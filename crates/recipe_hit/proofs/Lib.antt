@@ -2,7 +2,7 @@
 pub mod Comparisons
 pub mod Joining
 pub mod Resting
-pub mod Starting
+pub mod HitStarts
 pub mod Hitting
 pub mod OneHit
 pub mod Earlier

@@ -13,12 +13,6 @@ use Rattle.recipe_hit.specs.Sound.{AreHits, what_is_left}
 use Rattle.recipe_hit.specs.SalvoRefusals.{IsFirstMissing, LaneIsRefused, LanesAreRefused}
 use Rattle.recipe_hit.proofs.InTurn.{hits_more}
 
--- what holds of each holds at a place
-pub each_at : {X : Type 0} (P : X → Type 0) (xs : List X) → AllByRecursion P xs → (i : ℕ) (d : X) → i < length xs → P (get_or xs i d)
-each_at P [] h i d lt = absurd (omega arith)
-each_at P (x ∷ xs) h zero d lt = h.0
-each_at P (x ∷ xs) h (suc i) d lt = each_at P xs h.1 i d (omega arith)
-
 -- a lane that is read is what it was
 pub lane_read : (z : ℤ) → IsCoordinate z → to_z w64 (of_z w64 z) ≡ z
 lane_read z h = let low = h.low in let high = h.high in omega (arith, ints)

@@ -12,7 +12,7 @@ use life_cells::Bounds;
 /// How far the bounds of a hit may go beyond those of what was struck, on each side.
 const BEYOND: i64 = 8192;
 
-// The least box that holds both.
+/// The least box that holds both.
 fn joined(a: Bounds, b: Bounds) -> Bounds
     ensures { result
         ≡ record {

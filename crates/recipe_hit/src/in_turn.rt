@@ -53,7 +53,7 @@ pub(crate) fn strike_in_turn<L: Ledger>(
     Ok(hits)
 }
 
-// The hit of a glider of the lane at this place.
+/// The hit of a glider of the lane at this place.
 fn strike<L: Ledger>(
     alloc: Global,
     struck: &CellSet,

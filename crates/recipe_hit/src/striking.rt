@@ -61,7 +61,7 @@ pub fn hit<L: Ledger>(
     })
 }
 
-// The quarter of a glider's index from which it comes to what lies in the box.
+/// The quarter of a glider's index from which it comes to what lies in the box.
 fn first_quarter_of(struck: Bounds, lane: i64) -> i64
     requires struck { IsBoxInRange (2 ^ 40) struck }
     requires low { neg_ℤ (pos (2 ^ 41)) ≤ℤ lane }
@@ -75,7 +75,7 @@ fn first_quarter_of(struck: Bounds, lane: i64) -> i64
     beside.max(below)
 }
 
-// What is struck, and the glider of a lane at this quarter.
+/// What is struck, and the glider of a lane at this quarter.
 fn with_glider(alloc: Global, cells: &CellSet, lane: i64, quarter: i64) -> Result<CellSet, NoMemory>
     requires lane_low { neg_ℤ (pos (2 ^ 41)) ≤ℤ lane }
     requires lane_high { lane ≤ℤ pos (2 ^ 41) }

@@ -1,6 +1,7 @@
 use Rattle.std.proofs.Common.{◌+◌, ◌*◌, ◌^◌, ℤ, pos, w64, to_z, of_z, List, [], get_or, subst, sym, arith}
 use Rattle.std.proofs.lemmas.Int.{ints}
 use Rattle.std.proofs.lemmas.Result.{err_from_is_err_and}
+use Rattle.life_plane.specs.ListLaws.{each_at}
 use Rattle.life_cells.specs.Cells.{alive}
 use Rattle.life_cells.specs.Boxes.{IsInRange}
 use Rattle.life_cells.specs.BoxLaws.{range_wider}
@@ -9,7 +10,7 @@ use Rattle.recipe_hit.specs.declared.hit.Hit.{Hit}
 use Rattle.recipe_hit.specs.Sound.{AreHits, what_is_left}
 use Rattle.recipe_hit.specs.Checked.{AreSmallFrames}
 use Rattle.recipe_hit.proofs.InTurn.{left_is, small_after, range_after, hand_range}
-use Rattle.recipe_hit.proofs.Missing.{each_at, lane_read, missed_here, turns_more}
+use Rattle.recipe_hit.proofs.Missing.{lane_read, missed_here, turns_more}
 use Rattle.recipe_hit.proofs.in_turn.strike_in_turn.Goals as goal
 
 pub loop-place-init : goal.loop-place-init

@@ -1,19 +1,16 @@
 -- How a hit begins.
 use Rattle.std.proofs.Common.{◌≡◌, ◌^◌, true, false, Bool, ◌||◌, ℤ, pos, neg_ℤ, ◌*ℤ◌, ◌≤ℤ◌, refl, ap, sym, subst, ◌∙◌, arith}
 use Rattle.std.proofs.lemmas.Int.{ints}
+use Rattle.std.proofs.Math.Bool.{or_self_left}
 use Rattle.life_plane.specs.Plane.{Plane, union, same_plane}
 use Rattle.life_plane.specs.Salvo.{salvo_glider, salvo_range}
 use Rattle.life_cells.specs.Boxes.{IsInRange, IsLeastBox}
 use Rattle.life_cells.specs.BoxLaws.{range_union, range_wider}
 use Rattle.life_cells.specs.declared.bounds.Bounds.{Bounds}
 
-or_again : (a b : Bool) → (a || (a || b)) ≡ (a || b)
-or_again true b = refl
-or_again false b = refl
-
 -- what is joined twice is joined
 pub union_again : (s t : Plane) → union s (union s t) ≡ union s t
-union_again s t = same_plane _ _ (λ x y. or_again (s x y) (t x y))
+union_again s t = same_plane _ _ (λ x y. or_self_left (s x y) (t x y))
 
 pub least_with_glider : (box : Bounds) (s t both : Plane) → both ≡ union s t → IsLeastBox box (union s both) → IsLeastBox box both
 least_with_glider box s t both is h = subst (IsLeastBox box) (ap (union s) is ∙ union_again s t ∙ sym is) h
