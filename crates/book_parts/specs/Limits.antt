@@ -2,6 +2,7 @@
 use Rattle.std.specs.Prelude.{◌≡◌, ℕ, ◌≤◌, ◌^◌, ℤ, pos, neg_ℤ, ◌≤ℤ◌, ◌+ℤ◌, ◌*ℤ◌, List, ◌∷◌, length, codes, ◌≢◌, Bool, true, false, ◌&&◌, ◌||◌, nat_le, ◌==◌, []}
 use Rattle.std.specs.List.{list_all}
 use Rattle.life_plane.specs.Plane.{Plane}
+use Rattle.book_parts.specs.declared.limits.TheConstants.{GREATEST_COORDINATE, MOST_LANES, MOST_GAPS, LONGEST_DELAY, LEAST_APPROACH, GREATEST_APPROACH, GREATEST_WALL, WALL_MARGIN, GREATEST_REACH, GREATEST_ROOM, GREATEST_SPAN, LEAST_GAP}
 use Rattle.book_parts.specs.declared.settings.Settings.{Settings}
 use Rattle.book_parts.specs.declared.settings.Range.{Range}
 
@@ -12,7 +13,7 @@ pub record IsFrom (least greatest z : ℤ) : Type 0 where
 
 -- coordinates, shifts and lanes in a book lie from -2^30 to 2^30
 abbrev pub IsCoordinate : ℤ → Type 0
-IsCoordinate z = IsFrom (neg_ℤ (pos (2 ^ 30))) (pos (2 ^ 30)) z
+IsCoordinate z = IsFrom (neg_ℤ GREATEST_COORDINATE) GREATEST_COORDINATE z
 
 -- each live cell has coordinates that a book may have
 pub record IsPlaced (s : Plane) : Type 0 where
@@ -21,7 +22,7 @@ pub record IsPlaced (s : Plane) : Type 0 where
 
 -- the approach: a multiple of 4 from 20 to 4,096
 pub record IsApproach (z : ℤ) : Type 0 where
-  pub range : IsFrom (pos 20) (pos 4096) z
+  pub range : IsFrom LEAST_APPROACH GREATEST_APPROACH z
   pub quarters : ℤ
   pub multiple : z ≡ pos 4 *ℤ quarters
 
@@ -31,24 +32,24 @@ pub record AreLanes (range : Range) : Type 0 where
   pub high : IsCoordinate range.high
   pub order : range.low ≤ℤ range.high
   pub some : 1 ≤ range.len
-  pub few : range.len ≤ 64
+  pub few : range.len ≤ MOST_LANES
 
 -- the finder's gaps: 20 at most LOW, LOW at most HIGH, HIGH at most 65,536, and at most 63 of them in a list
 pub record AreGaps (range : Range) : Type 0 where
-  pub low : pos 20 ≤ℤ range.low
+  pub low : LEAST_GAP ≤ℤ range.low
   pub order : range.low ≤ℤ range.high
-  pub high : range.high ≤ℤ pos 65536
-  pub few : range.len ≤ 63
+  pub high : range.high ≤ℤ LONGEST_DELAY
+  pub few : range.len ≤ MOST_GAPS
 
 -- the settings are within the limits, and the reach is past the wall by at least 9
 pub record AreProper (settings : Settings) : Type 0 where
   pub approach : IsApproach settings.approach
-  pub wall : IsFrom (pos 1) (pos 4096) settings.wall
-  pub reach : IsFrom (settings.wall +ℤ pos 9) (pos 65536) settings.reach
+  pub wall : IsFrom (pos 1) GREATEST_WALL settings.wall
+  pub reach : IsFrom (settings.wall +ℤ WALL_MARGIN) GREATEST_REACH settings.reach
   pub corner_x : IsCoordinate settings.corner.x
   pub corner_y : IsCoordinate settings.corner.y
-  pub room : IsFrom (pos 0) (pos 512) settings.room
-  pub span : IsFrom (pos 0) (pos (2 ^ 27)) settings.span
+  pub room : IsFrom (pos 0) GREATEST_ROOM settings.room
+  pub span : IsFrom (pos 0) GREATEST_SPAN settings.span
   pub lanes : AreLanes settings.lanes
   pub delays : AreGaps settings.delays
 

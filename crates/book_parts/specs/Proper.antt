@@ -6,6 +6,7 @@ use Rattle.std.specs.declared.option.Option.TheVariants.{Some, None}
 use Rattle.life_plane.specs.Plane.{Plane}
 use Rattle.life_cells.specs.Cells.{alive, in_order}
 use Rattle.life_cells.specs.declared.cell.Cell.{Cell}
+use Rattle.book_parts.specs.declared.limits.TheConstants.{MOST_KINDS, MOST_TURNS, MOST_SALVOS, MOST_DELAYS, MOST_LANES, MOST_CELLS, GREATEST_COORDINATE, GREATEST_INDEX, LONGEST_DELAY, LONGEST_TURN}
 use Rattle.book_parts.specs.Limits.{IsFrom, IsCoordinate, IsPlaced, IsName, AreProper}
 use Rattle.book_parts.specs.declared.kind.RawKind.{RawKind}
 use Rattle.book_parts.specs.declared.turn.RawTurn.{RawTurn}
@@ -25,11 +26,11 @@ pub record IsKindNumber (kinds number : ℕ) : Type 0 where
 
 -- a delay of a turn, in generations
 abbrev pub IsDelay : ℤ → Type 0
-IsDelay delay = IsFrom (pos 0) (pos 65536) delay
+IsDelay delay = IsFrom (pos 0) LONGEST_DELAY delay
 
 -- the index of a thrown glider
 abbrev pub IsIndex : ℤ → Type 0
-IsIndex j = IsFrom (neg_ℤ (pos (2 ^ 33))) (pos (2 ^ 33)) j
+IsIndex j = IsFrom (neg_ℤ GREATEST_INDEX) GREATEST_INDEX j
 
 -- what a turn leaves, in a book with so many kinds
 abbrev pub IsProperEnd : ℕ → TurnEnd → Type 0
@@ -42,9 +43,9 @@ pub record IsProperTurn (kinds : ℕ) (turn : RawTurn) : Type 0 where
   pub name : IsName turn.name
   pub kind : IsKindNumber kinds turn.kind
   pub leaves : IsProperEnd kinds turn.end
-  pub short : turn.n ≤ 65536
+  pub short : turn.n ≤ LONGEST_TURN
   pub some : 0 < length turn.delays
-  pub few : length turn.delays ≤ 64
+  pub few : length turn.delays ≤ MOST_DELAYS
   pub delays : AllByRecursion IsDelay turn.delays
 
 pub record IsProperKind (kind : RawKind) : Type 0 where
@@ -60,7 +61,7 @@ IsProperPlace (Some place) = IsCoordinate place.x × IsCoordinate place.y
 pub record IsProperSalvo (salvo : RawSalvo) : Type 0 where
   pub name : IsName salvo.name
   pub some : 0 < length salvo.lanes
-  pub few : length salvo.lanes ≤ 64
+  pub few : length salvo.lanes ≤ MOST_LANES
   pub lanes : AllByRecursion IsCoordinate salvo.lanes
   pub product : IsPlaced (alive salvo.product)
   pub hand : IsProperPlace salvo.hand
@@ -69,8 +70,8 @@ pub record IsProperSalvo (salvo : RawSalvo) : Type 0 where
 pub record IsProperHand (s : Plane) : Type 0 where
   pub lives : HasLife s
   pub placed : IsPlaced s
-  pub x : (x y : ℤ) → s x y ≡ true → IsFrom (pos 0) (pos (2 ^ 30)) x
-  pub y : (x y : ℤ) → s x y ≡ true → IsFrom (pos 0) (pos (2 ^ 30)) y
+  pub x : (x y : ℤ) → s x y ≡ true → IsFrom (pos 0) GREATEST_COORDINATE x
+  pub y : (x y : ℤ) → s x y ≡ true → IsFrom (pos 0) GREATEST_COORDINATE y
 
 -- a text is none of these
 abbrev pub IsNoneOf : List (List ℕ) → List ℕ → Type 0
@@ -96,13 +97,13 @@ pub record IsProperBook (book : Said) : Type 0 where
   pub settings : AreProper book.settings
   pub hand : IsProperHand (alive book.hand)
   pub some_kind : 0 < length book.kinds
-  pub few_kinds : length book.kinds ≤ 256
+  pub few_kinds : length book.kinds ≤ MOST_KINDS
   pub kinds : AllByRecursion IsProperKind book.kinds
   pub kind_names : AreDistinct (map (λ (kind : RawKind). kind.name) book.kinds)
   pub start : IsKindNumber (length book.kinds) book.start
-  pub few_turns : length book.turns ≤ 1024
+  pub few_turns : length book.turns ≤ MOST_TURNS
   pub turns : AllByRecursion (IsProperTurn (length book.kinds)) book.turns
-  pub few_salvos : length book.salvos ≤ 4096
+  pub few_salvos : length book.salvos ≤ MOST_SALVOS
   pub salvos : AllByRecursion IsProperSalvo book.salvos
   pub names : AreDistinct (entry_names book)
-  pub few_cells : live_cells book ≤ 2 ^ 18
+  pub few_cells : live_cells book ≤ MOST_CELLS

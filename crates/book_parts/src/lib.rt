@@ -4,6 +4,7 @@
 
 pub mod book;
 pub mod kind;
+pub mod limits;
 pub mod name;
 pub mod numbers;
 pub mod salvo;

@@ -1,8 +1,2 @@
--- What a book's text says.
-pub mod Names
-pub mod Stated
-pub mod Limited
-pub mod Joining
-pub mod Reading
+-- What a book's text says, and how it is written.
 pub mod Book
-pub mod Drafted

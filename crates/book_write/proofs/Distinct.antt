@@ -6,7 +6,7 @@ use Rattle.std.proofs.lemmas.Slice.Eq.{bytes_eq-Decides}
 use Rattle.book_parts.specs.Limits.{IsName}
 use Rattle.book_parts.specs.Proper.{IsKindNumber, IsNoneOf, AreDistinct, IsProperKind}
 use Rattle.book_parts.specs.declared.kind.RawKind.{RawKind}
-use Rattle.book_text.specs.Names.{number_from, number_of, known_number}
+use Rattle.book_read.specs.Names.{number_from, number_of, known_number}
 use Rattle.book_write.specs.Parts.{kind_name}
 
 -- ---- distinct names

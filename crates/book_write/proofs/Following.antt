@@ -20,13 +20,13 @@ use Rattle.book_lines.specs.declared.statement.Body.TheVariants.{Drawn}
 use Rattle.book_lines.specs.declared.statement.Statement.{Statement}
 use Rattle.book_lines.specs.declared.statement.Statement.TheVariants.{Approach, Wall, Reach, Corner, Room, Span, Lanes, Delays, Hand, Elbow, Start, Turn, Salvo}
 use Rattle.book_lines.specs.Counts.{delay_count, lane_count, cell_count}
-use Rattle.book_text.specs.declared.limit.Limit.TheVariants as limit
-use Rattle.book_text.specs.Stated.{Stated, nothing_stated, joined, end_of, turn_of, salvo_of}
-use Rattle.book_text.specs.Limited.{held, leaves_numbers, place_numbers, product_numbers, IsOver, stated_cells}
-use Rattle.book_text.specs.Names.{number_of}
-use Rattle.book_text.specs.Joining.{IsNew, KnowsKinds, kinds_left}
-use Rattle.book_text.specs.Reading.{AreFine}
-use Rattle.book_text.specs.Book.{Says}
+use Rattle.book_read.specs.declared.limit.Limit.TheVariants as limit
+use Rattle.book_read.specs.Stated.{Stated, nothing_stated, joined, end_of, turn_of, salvo_of}
+use Rattle.book_read.specs.Limited.{held, leaves_numbers, place_numbers, product_numbers, IsOver, stated_cells}
+use Rattle.book_read.specs.Names.{number_of}
+use Rattle.book_read.specs.Joining.{IsNew, KnowsKinds, kinds_left}
+use Rattle.book_read.specs.Reading.{AreFine}
+use Rattle.book_read.specs.Book.{Says}
 use Rattle.book_write.specs.Laid.{line_of}
 use Rattle.book_write.specs.Parts.{version_words, settings_words, IsHandLine, IsKindLine, kind_name, start_words, turn_words, IsSalvoLine}
 use Rattle.book_write.specs.Canonical.{IsBookText}

@@ -37,8 +37,8 @@ use Rattle.book_lines.specs.Values.Level.{Whole}
 use Rattle.book_lines.specs.Forms.{IsOneNumber, IsPair, IsSpread, IsBody, IsPlacedBody, IsElbowLine, IsStep, IsEnding, IsProduct, IsHand, IsSalvoLine as IsSalvoForm}
 use Rattle.book_lines.specs.Statements.{spelling, keyword, ItemsState, States}
 use Rattle.book_lines.specs.Counts.{product_count}
-use Rattle.book_text.specs.Stated.{product_of}
-use Rattle.book_text.specs.Limited.{placed_numbers, product_numbers}
+use Rattle.book_read.specs.Stated.{product_of}
+use Rattle.book_read.specs.Limited.{placed_numbers, product_numbers}
 use Rattle.book_write.specs.Laid.{spaced, line_of}
 use Rattle.book_write.specs.Parts.{place_words, range_words, IsHandLine, IsPlacedText, IsKindLine, kind_name, step_words, ending_words, turn_words, IsProductText, hand_words, IsSalvoLine}
 use Rattle.book_write.proofs.Visible.{IsWord, name_word}

@@ -10,9 +10,9 @@ use Rattle.life_cells.specs.PlaceLaws.{each_listed}
 use Rattle.book_parts.specs.Limits.{IsCoordinate, IsPlaced}
 use Rattle.book_lines.specs.declared.statement.Statement.{Statement}
 use Rattle.book_lines.specs.Counts.{delay_count, lane_count, cell_count}
-use Rattle.book_text.specs.declared.limit.Limit.{Limit}
-use Rattle.book_text.specs.Stated.{Stated, joined}
-use Rattle.book_text.specs.Limited.{IsWithin, Limited, held, cell_numbers, numbers, counts, stated_cells, IsFirstOutside, IsOver}
+use Rattle.book_read.specs.declared.limit.Limit.{Limit}
+use Rattle.book_read.specs.Stated.{Stated, joined}
+use Rattle.book_read.specs.Limited.{IsWithin, Limited, held, cell_numbers, numbers, counts, stated_cells, IsFirstOutside, IsOver}
 
 abbrev pub IsHeld : Limited → Type 0
 IsHeld n = IsWithin n.limit n.number

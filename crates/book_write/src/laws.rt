@@ -3,7 +3,7 @@
 ghost use Rattle.std.specs.Prelude.{◌≡◌, ℕ, List};
 ghost use Rattle.book_parts.specs.Said.{Said};
 ghost use Rattle.book_parts.specs.Proper.{IsProperBook};
-ghost use Rattle.book_text.specs.Book.{Says};
+ghost use Rattle.book_read.specs.Book.{Says};
 ghost use Rattle.book_write.specs.Canonical.{IsBookText};
 
 use life_rle::written_laws::sets_have_one_word;

@@ -3,7 +3,7 @@
 ghost use Rattle.std.specs.Prelude.{◌≡◌, ℕ, OnOk, OnErr, IfOk};
 ghost use Rattle.life_rle.specs.Written.{Appends};
 ghost use Rattle.book_parts.specs.Proper.{IsProperBook};
-ghost use Rattle.book_text.specs.Book.{Says};
+ghost use Rattle.book_read.specs.Book.{Says};
 ghost use Rattle.book_write.specs.Canonical.{IsBookText};
 
 use crate::kinds::{push_hand, push_kinds, push_start};

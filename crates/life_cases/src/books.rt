@@ -2,8 +2,7 @@
 
 use crate::cells::show_hit;
 use crate::show::{show_cells, show_lines};
-use book_text::read_book;
-use book_write::write_book;
+use book_text::{read_book, write_book};
 use elbow_graph::elbow_states;
 use elbow_route::{Elbow, route_to_close};
 use life_cells::NoMemory;

@@ -15,7 +15,7 @@ use Rattle.book_parts.specs.declared.settings.Settings.{Settings}
 use Rattle.book_parts.specs.declared.kind.RawKind.{RawKind}
 use Rattle.book_parts.specs.declared.turn.RawTurn.{RawTurn}
 use Rattle.book_text.specs.Book.{Said, Says, StopsWith}
-use Rattle.book_text.specs.declared.error.BookError as book
+use Rattle.book_read.specs.declared.error.BookError as book
 use Rattle.life_target.specs.Targets.{IsTarget, TargetIsRefused}
 use Rattle.life_target.specs.declared.refusal.TargetError as target
 use Rattle.recipe_turn.specs.Checked.{AreValid}

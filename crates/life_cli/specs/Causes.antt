@@ -12,7 +12,7 @@ use Rattle.life_rle.specs.Text.{Means}
 use Rattle.life_rle.specs.TextFaults.{TextStopsWith}
 use Rattle.life_rle.specs.declared.error.RleError as rle
 use Rattle.book_text.specs.Book.{Said, StopsWith}
-use Rattle.book_text.specs.declared.error.BookError as book
+use Rattle.book_read.specs.declared.error.BookError as book
 use Rattle.book_parts.specs.declared.turn.RawTurn.{RawTurn}
 use Rattle.life_target.specs.Targets as targets
 use Rattle.life_target.specs.declared.refusal.TargetError as target

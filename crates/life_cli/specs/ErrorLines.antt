@@ -7,9 +7,9 @@ use Rattle.life_cells.specs.declared.cell.Cell.{Cell}
 use Rattle.life_io.specs.Counts.{Rose}
 use Rattle.life_io.specs.Sinks.{AppendsPrefix}
 use Rattle.life_rle.specs.declared.error.RleError as rle
-use Rattle.book_text.specs.declared.error.BookError as book
+use Rattle.book_read.specs.declared.error.BookError as book
 use Rattle.book_lines.specs.declared.fault.LineFault as fault
-use Rattle.book_text.specs.declared.error.BookWord as setting
+use Rattle.book_read.specs.declared.error.BookWord as setting
 use Rattle.life_cli.specs.declared.words.WordsError as words
 use Rattle.life_cli.specs.declared.status.Which.{Which}
 use Rattle.life_cli.specs.declared.status.Which.TheVariants.{Book, Target, Pattern}

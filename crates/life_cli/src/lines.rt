@@ -7,8 +7,8 @@ ghost use Rattle.life_cli.specs.ErrorLines.{which_text, words_text, rle_text, fa
 use crate::status::{Status, Which};
 use crate::words::WordsError;
 use book_text::{BookError, BookWord, LineFault};
-use life_target::TargetError;
 use life_rle::RleError;
+use life_target::TargetError;
 use recipe_book::BookRefusal;
 use std::alloc::{AllocError, Global};
 use stream_time::PlanError;

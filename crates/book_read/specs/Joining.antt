@@ -1,0 +1,61 @@
+-- How a line goes with what the lines before it have stated.
+use Rattle.std.specs.Prelude.{◌≡◌, ℕ, List, [], ◌∷◌, ◌++◌, map, IsSome}
+use Rattle.std.specs.List.{AllByRecursion}
+use Rattle.std.specs.declared.option.Option.TheVariants.{None}
+use Rattle.book_parts.specs.Proper.{IsNoneOf}
+use Rattle.book_parts.specs.declared.kind.RawKind.{RawKind}
+use Rattle.book_parts.specs.declared.turn.RawTurn.{RawTurn}
+use Rattle.book_parts.specs.declared.salvo.RawSalvo.{RawSalvo}
+use Rattle.book_lines.specs.declared.statement.Leaves.{Leaves}
+use Rattle.book_lines.specs.declared.statement.Leaves.TheVariants.{Close, Move, Emit}
+use Rattle.book_lines.specs.declared.statement.Statement.{Statement}
+use Rattle.book_lines.specs.declared.statement.Statement.TheVariants.{Approach, Wall, Reach, Corner, Room, Span, Lanes, Delays, Hand, Elbow, Start, Turn, Salvo}
+use Rattle.book_lines.specs.Statements.{States}
+use Rattle.book_read.specs.Names.{number_of}
+use Rattle.book_read.specs.Stated.{Stated}
+use Rattle.book_read.specs.Limited.{IsOver}
+
+abbrev pub kind_names : Stated → List (List ℕ)
+kind_names stated = map (λ (kind : RawKind). kind.name) stated.kinds
+
+-- the names of turns and salvos
+abbrev pub entry_names : Stated → List (List ℕ)
+entry_names stated = map (λ (turn : RawTurn). turn.name) stated.turns ++ map (λ (salvo : RawSalvo). salvo.name) stated.salvos
+
+-- the setting, or the entry's name, doesn't come again
+abbrev pub IsNew : Stated → Statement → Type 0
+IsNew stated (Approach z) = stated.approach ≡ None
+IsNew stated (Wall z) = stated.wall ≡ None
+IsNew stated (Reach z) = stated.reach ≡ None
+IsNew stated (Corner c) = stated.corner ≡ None
+IsNew stated (Room z) = stated.room ≡ None
+IsNew stated (Span z) = stated.span ≡ None
+IsNew stated (Lanes spread) = stated.lanes ≡ None
+IsNew stated (Delays spread) = stated.delays ≡ None
+IsNew stated (Hand body) = stated.hand ≡ None
+IsNew stated (Elbow elbow) = IsNoneOf (kind_names stated) elbow.name
+IsNew stated (Start name) = stated.start ≡ None
+IsNew stated (Turn turn) = IsNoneOf (entry_names stated) turn.name
+IsNew stated (Salvo salvo) = IsNoneOf (entry_names stated) salvo.name
+
+abbrev pub kinds_left : Leaves → List (List ℕ)
+kinds_left Close = []
+kinds_left (Move kind shift) = kind ∷ []
+kinds_left (Emit kind shift lane j) = kind ∷ []
+
+-- the kinds that a line names
+abbrev pub kinds_named : Statement → List (List ℕ)
+kinds_named (Start name) = name ∷ []
+kinds_named (Turn turn) = turn.kind ∷ kinds_left turn.leaves
+kinds_named other = []
+
+-- each kind that a line names is defined before it
+abbrev pub KnowsKinds : Stated → Statement → Type 0
+KnowsKinds stated s = AllByRecursion (λ name. IsSome (number_of stated.kinds name)) (kinds_named s)
+
+-- a line is fine behind what is stated, and states this
+pub record IsFine (stated : Stated) (line : List ℕ) (s : Statement) : Type 0 where
+  pub states : States line s
+  pub new : IsNew stated s
+  pub known : KnowsKinds stated s
+  pub within : IsOver stated s None

@@ -1,0 +1,106 @@
+-- What lines have stated together.
+use Rattle.std.specs.Prelude.{ℕ, ℤ, nat_abs, List, [], ◌∷◌, ◌++◌, Option}
+use Rattle.std.specs.declared.option.Option.TheVariants.{Some, None}
+use Rattle.life_cells.specs.Cells.{Cells, empty}
+use Rattle.life_cells.specs.declared.cell.Cell.{Cell}
+use Rattle.book_parts.specs.declared.settings.Range.{Range}
+use Rattle.book_parts.specs.declared.kind.RawKind.{RawKind}
+use Rattle.book_parts.specs.declared.turn.RawTurn.{RawTurn}
+use Rattle.book_parts.specs.declared.turn.TurnEnd.{TurnEnd}
+use Rattle.book_parts.specs.declared.turn.TurnEnd.TheVariants as ending
+use Rattle.book_parts.specs.declared.salvo.RawSalvo.{RawSalvo}
+use Rattle.book_lines.specs.declared.statement.Body.{Body}
+use Rattle.book_lines.specs.declared.statement.Body.TheVariants.{Drawn, TooMany}
+use Rattle.book_lines.specs.declared.statement.Placed.{Placed}
+use Rattle.book_lines.specs.declared.statement.Spread.{Spread}
+use Rattle.book_lines.specs.declared.statement.Leaves.{Leaves}
+use Rattle.book_lines.specs.declared.statement.Leaves.TheVariants.{Close, Move, Emit}
+use Rattle.book_lines.specs.declared.statement.ElbowLine.{ElbowLine}
+use Rattle.book_lines.specs.declared.statement.TurnLine.{TurnLine}
+use Rattle.book_lines.specs.declared.statement.SalvoLine.{SalvoLine}
+use Rattle.book_lines.specs.declared.statement.Statement.{Statement}
+use Rattle.book_lines.specs.declared.statement.Statement.TheVariants.{Approach, Wall, Reach, Corner, Room, Span, Lanes, Delays, Hand, Elbow, Start, Turn, Salvo}
+use Rattle.book_read.specs.Names.{known_number}
+
+-- the settings, the hand and the start kind, each where a line has stated it; the kinds, turns and salvos in the order of their lines
+pub record Stated : Type 0 where
+  pub approach : Option ℤ
+  pub wall : Option ℤ
+  pub reach : Option ℤ
+  pub corner : Option Cell
+  pub room : Option ℤ
+  pub span : Option ℤ
+  pub lanes : Option Range
+  pub delays : Option Range
+  pub hand : Option Cells
+  pub kinds : List RawKind
+  pub start : Option ℕ
+  pub turns : List RawTurn
+  pub salvos : List RawSalvo
+
+-- before the first line
+abbrev pub nothing_stated : Stated
+nothing_stated = record {
+  approach = None;
+  wall = None;
+  reach = None;
+  corner = None;
+  room = None;
+  span = None;
+  lanes = None;
+  delays = None;
+  hand = None;
+  kinds = [];
+  start = None;
+  turns = [];
+  salvos = [];
+}
+
+abbrev pub range_of : Spread → Range
+range_of spread = record { low = spread.low; high = spread.high; len = nat_abs spread.len }
+
+-- the live cells of a body; of too many none is looked at
+abbrev pub cells_of : Body → Cells
+cells_of (Drawn cells) = cells
+cells_of (TooMany count) = empty
+
+abbrev pub kind_of : ElbowLine → RawKind
+kind_of elbow = record { name = elbow.name; cells = cells_of elbow.placed.body }
+
+-- what a turn leaves, kinds by their numbers
+abbrev pub end_of : List RawKind → Leaves → TurnEnd
+end_of kinds Close = ending.Close
+end_of kinds (Move kind shift) = ending.Move (known_number kinds kind) shift
+end_of kinds (Emit kind shift lane j) = ending.Emit (known_number kinds kind) shift lane j
+
+abbrev pub turn_of : List RawKind → TurnLine → RawTurn
+turn_of kinds turn = record {
+  name = turn.name;
+  kind = known_number kinds turn.kind;
+  end = end_of kinds turn.leaves;
+  n = nat_abs turn.n;
+  delays = turn.delays;
+}
+
+abbrev pub product_of : Option Placed → Cells
+product_of None = empty
+product_of (Some placed) = cells_of placed.body
+
+abbrev pub salvo_of : SalvoLine → RawSalvo
+salvo_of salvo = record { name = salvo.name; lanes = salvo.lanes; product = product_of salvo.product; hand = salvo.hand }
+
+-- what is stated with one statement more
+abbrev pub joined : Stated → Statement → Stated
+joined stated (Approach z) = record stated { approach = Some z }
+joined stated (Wall z) = record stated { wall = Some z }
+joined stated (Reach z) = record stated { reach = Some z }
+joined stated (Corner c) = record stated { corner = Some c }
+joined stated (Room z) = record stated { room = Some z }
+joined stated (Span z) = record stated { span = Some z }
+joined stated (Lanes spread) = record stated { lanes = Some (range_of spread) }
+joined stated (Delays spread) = record stated { delays = Some (range_of spread) }
+joined stated (Hand body) = record stated { hand = Some (cells_of body) }
+joined stated (Elbow elbow) = record stated { kinds = stated.kinds ++ (kind_of elbow ∷ []) }
+joined stated (Start name) = record stated { start = Some (known_number stated.kinds name) }
+joined stated (Turn turn) = record stated { turns = stated.turns ++ (turn_of stated.kinds turn ∷ []) }
+joined stated (Salvo salvo) = record stated { salvos = stated.salvos ++ (salvo_of salvo ∷ []) }

@@ -1,0 +1,196 @@
+//! What the lines of a book have stated so far.
+
+ghost use Rattle.std.specs.Prelude.{◌≡◌, ◌↔◌, IsTrue, OnOk, Option, pos};
+ghost use Rattle.std.specs.declared.option.Option.TheVariants.{None};
+ghost use Rattle.book_read.specs.Names.{number_of, known_number};
+ghost use Rattle.book_read.specs.Stated.{Stated, nothing_stated, range_of, cells_of, product_of, turn_of, end_of, joined};
+ghost use Rattle.book_read.specs.Limited.{IsOver};
+ghost use Rattle.book_read.specs.Joining.{IsNew};
+ghost use Rattle.book_read.specs.Drafted.{stated_of, IsKept};
+ghost use Rattle.book_parts.specs.Limits.{IsFrom};
+
+use book_lines::{Body, ElbowLine, Leaves, Placed, Spread, Statement, TurnLine};
+use book_parts::limits::{LONGEST_TURN, MOST_LANES};
+use book_parts::{Range, RawKind, RawSalvo, RawTurn, TurnEnd};
+use life_cells::{Cell, CellSet, NoMemory};
+use std::alloc::Global;
+
+/// What the lines so far have stated.
+#[derive(Drop)]
+pub struct Draft {
+    pub approach: Option<i64>,
+    pub wall: Option<i64>,
+    pub reach: Option<i64>,
+    pub corner: Option<Cell>,
+    pub room: Option<i64>,
+    pub span: Option<i64>,
+    pub lanes: Option<Range>,
+    pub delays: Option<Range>,
+    pub hand: Option<CellSet>,
+    pub kinds: Vec<RawKind>,
+    pub start: Option<usize>,
+    pub turns: Vec<RawTurn>,
+    pub salvos: Vec<RawSalvo>,
+    /// How many live cells all bodies have.
+    pub cells: usize,
+}
+
+impl Draft {
+    /// Before the first line.
+    pub fn new(alloc: Global) -> Self
+        ensures stated { stated_of result ≡ nothing_stated }
+        ensures kept { IsKept result }
+    {
+        Draft {
+            approach: None,
+            wall: None,
+            reach: None,
+            corner: None,
+            room: None,
+            span: None,
+            lanes: None,
+            delays: None,
+            hand: None,
+            kinds: Vec::new(alloc),
+            start: None,
+            turns: Vec::new(alloc),
+            salvos: Vec::new(alloc),
+            cells: 0,
+        }
+    }
+
+    /// Adds what a line states that goes with the lines before it.
+    pub fn add(&mut self, alloc: Global, statement: Statement) -> Result<(), NoMemory>
+        requires kept { IsKept self.old }
+        requires new { IsNew (stated_of self.old) statement }
+        requires within { IsOver (stated_of self.old) statement None }
+        ensures stated { OnOk result (stated_of self.new ≡ joined (stated_of self.old) statement) }
+        ensures kept { OnOk result (IsKept self.new) }
+    {
+        match statement {
+            Statement::Approach(approach) => self.approach = Some(approach),
+            Statement::Wall(wall) => self.wall = Some(wall),
+            Statement::Reach(reach) => self.reach = Some(reach),
+            Statement::Corner(corner) => self.corner = Some(corner),
+            Statement::Room(room) => self.room = Some(room),
+            Statement::Span(span) => self.span = Some(span),
+            Statement::Lanes(lanes) => self.lanes = Some(range_of(lanes)),
+            Statement::Delays(delays) => self.delays = Some(range_of(delays)),
+            Statement::Hand(body) => {
+                let hand = cells_of(alloc, body);
+                self.cells += hand.len();
+                self.hand = Some(hand);
+            }
+            Statement::Elbow(ElbowLine { name, placed }) => {
+                let cells = cells_of(alloc, placed.body);
+                self.cells += cells.len();
+                self.kinds.push(RawKind { name, cells })?;
+            }
+            Statement::Start(name) => self.start = Some(known_number(&self.kinds, name.text())),
+            Statement::Turn(turn) => {
+                let turn = turn_of(&self.kinds, turn);
+                self.turns.push(turn)?;
+            }
+            Statement::Salvo(salvo) => {
+                let product = product_of(alloc, salvo.product);
+                self.cells += product.len();
+                self.salvos.push(RawSalvo {
+                    name: salvo.name,
+                    lanes: salvo.lanes,
+                    product,
+                    hand: salvo.hand,
+                })?;
+            }
+        }
+        Ok(())
+    }
+}
+
+/// The number of the kind with a name, counted from 1.
+pub fn number_of(kinds: &[RawKind], name: &str) -> Option<usize>
+    ensures { result ≡ number_of kinds.now name.now }
+{
+    for (index, kind) in kinds.iter().enumerate() {
+        if kind.name.text() == name {
+            return Some(index + 1);
+        }
+    }
+    None
+}
+
+/// The number of the kind with a name that is known.
+fn known_number(kinds: &[RawKind], name: &str) -> usize
+    ensures { result ≡ known_number kinds.now name.now }
+{
+    number_of(kinds, name).unwrap_or(0)
+}
+
+/// The range of a spread whose length is within its limits.
+fn range_of(spread: Spread) -> Range
+    requires { IsFrom (pos 0) (pos MOST_LANES) spread.len }
+    ensures { result ≡ range_of spread }
+{
+    Range {
+        low: spread.low,
+        high: spread.high,
+        len: spread.len as u32,
+    }
+}
+
+/// The cells of a body; of too many none.
+fn cells_of(alloc: Global, body: Body) -> CellSet
+    ensures { result ≡ cells_of body }
+{
+    match body {
+        Body::Drawn(cells) => cells,
+        Body::TooMany(_) => CellSet::empty(alloc),
+    }
+}
+
+/// The cells of a product; none where there is none.
+fn product_of(alloc: Global, product: Option<Placed>) -> CellSet
+    ensures { result ≡ product_of product }
+{
+    match product {
+        Some(placed) => cells_of(alloc, placed.body),
+        None => CellSet::empty(alloc),
+    }
+}
+
+/// A turn, kinds by their numbers, whose time is within its limits.
+fn turn_of(kinds: &[RawKind], turn: TurnLine) -> RawTurn
+    requires { IsFrom (pos 0) (pos LONGEST_TURN) turn.n }
+    ensures { result ≡ turn_of kinds.now turn }
+{
+    RawTurn {
+        kind: known_number(kinds, turn.kind.text()),
+        end: end_of(kinds, &turn.leaves),
+        name: turn.name,
+        n: turn.n as u32,
+        delays: turn.delays,
+    }
+}
+
+/// What a turn leaves, kinds by their numbers.
+fn end_of(kinds: &[RawKind], leaves: &Leaves) -> TurnEnd
+    ensures { result ≡ end_of kinds.now leaves.now }
+{
+    match leaves {
+        Leaves::Close => TurnEnd::Close,
+        Leaves::Move { kind, shift } => TurnEnd::Move {
+            kind: known_number(kinds, kind.text()),
+            shift: *shift,
+        },
+        Leaves::Emit {
+            kind,
+            shift,
+            lane,
+            j,
+        } => TurnEnd::Emit {
+            kind: known_number(kinds, kind.text()),
+            shift: *shift,
+            lane: *lane,
+            j: *j,
+        },
+    }
+}

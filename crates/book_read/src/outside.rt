@@ -1,0 +1,155 @@
+//! The first number of a line that is outside its limits.
+
+ghost use Rattle.std.specs.Prelude.{◌≡◌, ℤ, [], ◌∷◌, ◌++◌, map, flat_map};
+ghost use Rattle.life_cells.specs.Cells.{in_order};
+ghost use Rattle.book_read.specs.Limited.{held, cell_numbers, body_numbers, placed_numbers, leaves_numbers, product_numbers, place_numbers, numbers, IsFirstOutside};
+
+use crate::limit::Limit;
+use book_lines::{Body, Leaves, Placed, SalvoLine, Spread, Statement, TurnLine};
+use life_cells::{Cell, CellSet};
+
+/// The first number of a statement that is outside its limits.
+pub fn number_outside(statement: &Statement) -> Option<i64>
+    ensures { IsFirstOutside (numbers statement.now) result }
+{
+    match statement {
+        Statement::Approach(approach) => outside(Limit::Approach, *approach),
+        Statement::Wall(wall) => outside(Limit::Wall, *wall),
+        Statement::Reach(reach) => outside(Limit::Reach, *reach),
+        Statement::Corner(corner) => cell_outside(*corner),
+        Statement::Room(room) => outside(Limit::Room, *room),
+        Statement::Span(span) => outside(Limit::Span, *span),
+        Statement::Lanes(lanes) => lanes_outside(*lanes),
+        Statement::Delays(delays) => delays_outside(*delays),
+        Statement::Hand(body) => body_outside(body),
+        Statement::Elbow(elbow) => placed_outside(&elbow.placed),
+        Statement::Start(_) => None,
+        Statement::Turn(turn) => turn_outside(turn),
+        Statement::Salvo(salvo) => salvo_outside(salvo),
+    }
+}
+
+/// The number, where it is outside its limit.
+pub fn outside(limit: Limit, number: i64) -> Option<i64>
+    ensures { IsFirstOutside (held limit number ∷ []) result }
+{
+    if limit.holds(number) {
+        None
+    } else {
+        Some(number)
+    }
+}
+
+fn cell_outside(cell: Cell) -> Option<i64>
+    ensures { IsFirstOutside (cell_numbers cell) result }
+{
+    let x = outside(Limit::Coordinate, cell.x);
+    let y = outside(Limit::Coordinate, cell.y);
+    x.or(y)
+}
+
+fn lanes_outside(lanes: Spread) -> Option<i64>
+    ensures { IsFirstOutside (held Limit.Coordinate lanes.low ∷ (held Limit.Coordinate lanes.high ∷ (held Limit.LanesLength lanes.len ∷ []))) result }
+{
+    let low = outside(Limit::Coordinate, lanes.low);
+    let high = outside(Limit::Coordinate, lanes.high);
+    let len = outside(Limit::LanesLength, lanes.len);
+    low.or(high.or(len))
+}
+
+fn delays_outside(delays: Spread) -> Option<i64>
+    ensures { IsFirstOutside (held Limit.LeastGap delays.low ∷ (held Limit.GreatestGap delays.high ∷ (held Limit.GapsLength delays.len ∷ []))) result }
+{
+    let low = outside(Limit::LeastGap, delays.low);
+    let high = outside(Limit::GreatestGap, delays.high);
+    let len = outside(Limit::GapsLength, delays.len);
+    low.or(high.or(len))
+}
+
+fn numbers_outside(limit: Limit, items: &[i64]) -> Option<i64>
+    ensures { IsFirstOutside (map (held limit) items.now) result }
+{
+    for item in items {
+        if !limit.holds(*item) {
+            return Some(*item);
+        }
+    }
+    None
+}
+
+fn cells_outside(cells: &CellSet) -> Option<i64>
+    ensures { IsFirstOutside (flat_map cell_numbers (in_order cells.now)) result }
+{
+    for cell in cells.cells() {
+        let found = cell_outside(*cell);
+        if found.is_some() {
+            return found;
+        }
+    }
+    None
+}
+
+fn body_outside(body: &Body) -> Option<i64>
+    ensures { IsFirstOutside (body_numbers body.now) result }
+{
+    match body {
+        Body::Drawn(cells) => cells_outside(cells),
+        Body::TooMany(_) => None,
+    }
+}
+
+fn placed_outside(placed: &Placed) -> Option<i64>
+    ensures { IsFirstOutside (placed_numbers placed.now) result }
+{
+    cell_outside(placed.at).or(body_outside(&placed.body))
+}
+
+fn leaves_outside(leaves: &Leaves, n: i64) -> Option<i64>
+    ensures { IsFirstOutside (leaves_numbers leaves.now n) result }
+{
+    let time = outside(Limit::Time, n);
+    match leaves {
+        Leaves::Close => time,
+        Leaves::Move { shift, .. } => outside(Limit::Coordinate, *shift).or(time),
+        Leaves::Emit { shift, lane, j, .. } => {
+            let before = outside(Limit::Coordinate, *shift).or(time);
+            let glider = outside(Limit::Coordinate, *lane).or(outside(Limit::Index, *j));
+            before.or(glider)
+        }
+    }
+}
+
+fn turn_outside(turn: &TurnLine) -> Option<i64>
+    ensures { IsFirstOutside (leaves_numbers turn.now.leaves turn.now.n ++ map (held Limit.Delay) turn.now.delays) result }
+{
+    let leaves = leaves_outside(&turn.leaves, turn.n);
+    let delays = numbers_outside(Limit::Delay, turn.delays.items());
+    leaves.or(delays)
+}
+
+fn product_outside(product: &Option<Placed>) -> Option<i64>
+    ensures { IsFirstOutside (product_numbers product.now) result }
+{
+    match product {
+        Some(placed) => placed_outside(placed),
+        None => None,
+    }
+}
+
+fn place_outside(place: Option<Cell>) -> Option<i64>
+    ensures { IsFirstOutside (place_numbers place) result }
+{
+    match place {
+        Some(cell) => cell_outside(cell),
+        None => None,
+    }
+}
+
+fn salvo_outside(salvo: &SalvoLine) -> Option<i64>
+    ensures { IsFirstOutside (map (held Limit.Coordinate) salvo.now.lanes ++ (product_numbers salvo.now.product ++ place_numbers salvo.now.hand)) result }
+{
+    let lanes = numbers_outside(Limit::Coordinate, salvo.lanes.items());
+    let product = product_outside(&salvo.product);
+    let hand = place_outside(salvo.hand);
+    lanes.or(product.or(hand))
+}

@@ -1,5 +1,0 @@
-use Rattle.book_text.proofs.laws.texts_say_proper_books.Goals as goal
-use Rattle.book_text.proofs.Sound.{text_proper}
-
-pub returns : goal.returns
-returns c = text_proper
