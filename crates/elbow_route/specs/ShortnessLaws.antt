@@ -133,7 +133,7 @@ may_pass_anywhere goal Close may = may
 may_pass_anywhere goal (Move kind advance) may = tt
 may_pass_anywhere goal (Emit kind advance lane j) may = tt
 
-passes_anywhere : (exits : List Exit) (span : ℤ) (goal : Goal) (k : ℕ) (a b : Elbow) → Passes exits span goal k a b → Passes exits span Anywhere k a b
+pub passes_anywhere : (exits : List Exit) (span : ℤ) (goal : Goal) (k : ℕ) (a b : Elbow) → Passes exits span goal k a b → Passes exits span Anywhere k a b
 passes_anywhere exits span goal k a b h = record { exit = h.exit; numbered = h.numbered; may = may_pass_anywhere goal h.exit.end h.may; leads = h.leads }
 
 -- the least list that serves a goal from an elbow has no more turns than the elbows that are come to from one that leads there

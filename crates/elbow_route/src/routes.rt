@@ -49,8 +49,9 @@ pub fn route_to_close(
     least_list(alloc, &graph, Goal::Closed, from, span)
 }
 
-// The least list of turns that serves a goal.
-fn least_list(
+/// The least list of turns that serves a goal, by their numbers from 1 on, each shift from -span to span; None exactly where none does.
+/// A graph serves any number of calls.
+pub fn least_list(
     alloc: Global,
     graph: &ElbowGraph,
     goal: Goal,
