@@ -1,5 +1,5 @@
 -- The least box of one cell more.
-use Rattle.std.proofs.Common.{◌≡◌, ℕ, ◌+◌, ◌-◌, ◌<◌, ◌≤◌, List, [], ◌∷◌, length, take, drop, get_or, refl, sym, ap, subst, ◌∙◌, arith, inl, inr}
+use Rattle.std.proofs.Common.{◌≡◌, ℕ, ◌+◌, ◌-◌, ◌<◌, ◌≤◌, List, [], ◌∷◌, length, take, drop, get_or, sym, ap, subst, ◌∙◌, arith, inl, inr}
 use Rattle.std.specs.Prelude.{◌||◌, Option, Some, None, IfSome, IfNone}
 use Rattle.std.specs.Int.{int_min, int_max}
 use Rattle.std.proofs.lemmas.Int.{ints, clamps}
@@ -61,9 +61,6 @@ union_none s = same_plane _ _ (λ x y. or-false (s x y))
 -- a loop's step
 pub union_more : (s : Plane) (cs : List Cell) (i : ℕ) (d : Cell) → i < length cs → union s (listed (take (i + 1) cs)) ≡ union (union s (listed (take i cs))) (lone (get_or cs i d))
 union_more s cs i d lt = same_plane _ _ (λ x y. ap (λ b. s x y || b) (list_any_more (same_cell (cell x y)) cs i d lt) ∙ sym (or_assoc (s x y) (listed (take i cs) x y) (lone (get_or cs i d) x y)))
-
-one_listed : (c : Cell) (cs : List Cell) → union (lone c) (listed cs) ≡ listed (c ∷ cs)
-one_listed c cs = refl
 
 -- the box of a list, from that of its first cell
 pub least_of_list : (cs : List Cell) (d : Cell) (start box : Bounds) → 1 ≤ length cs → start ≡ box_at (get_or cs 0 d)

@@ -65,13 +65,6 @@ lower_half cs c low high m z rises h lt le is = record {
     later : (a b : Cell) → cell_cmp b a ≡ Less → is_lt (cell_cmp b c) ≡ false → is_lt (cell_cmp a c) ≡ false
     later a b e f = not_so (is_lt (cell_cmp a c)) (λ g. let t : is_lt (cell_cmp b c) ≡ true = ap is_lt (cells_total.trans b a c e (less_from_test (cell_cmp a c) g)) in absurd (cc))
 
-pub halved_out : (cs : List Cell) (c : Cell) (low high : ℕ) → IsHalved cs c low high → high ≤ low → IsFirstFrom cs c low
-halved_out cs c low high h le = record {
-  within = omega (arith, h.within);
-  before = h.before;
-  from = λ k d low' below. h.from k d (omega (arith, h.order)) below;
-}
-
 -- ---- one row
 
 not_before : (a b : Cell) → is_lt (cell_cmp a b) ≡ false → cell_cmp a b ≡ Less → ⊥

@@ -1,17 +1,17 @@
 -- Where two lists of cells that rise differ first, and where a cell goes into one.
-use Rattle.std.proofs.Common.{◌≡◌, ℕ, ◌+◌, ◌<◌, ◌≤◌, true, false, List, [], ◌∷◌, ◌++◌, length, take, drop, get_or, refl, sym, ap, subst, ◌∙◌, arith}
+use Rattle.std.proofs.Common.{◌≡◌, ℕ, ◌+◌, ◌<◌, ◌≤◌, true, false, List, [], ◌∷◌, ◌++◌, length, take, drop, get_or, refl, sym, ap, subst, ◌∙◌}
 use Rattle.std.specs.Prelude.{◌||◌, Option, Some, None, IfSome, IfNone}
-use Rattle.std.specs.declared.cmp.Ordering.TheVariants.{Less, Equal, Greater}
+use Rattle.std.specs.declared.cmp.Ordering.TheVariants.{Less, Greater}
 use Rattle.std.specs.Ordering.{is_eq, ordering_reverse}
 use Rattle.std.specs.List.{AllByRecursion}
 use Rattle.std.specs.List.Sorted.{IsStrictlySortedBy}
-use Rattle.std.proofs.lemmas.List.{drop_more, drop_all, take_all, take_more, take-append-drop}
+use Rattle.std.proofs.lemmas.List.{drop_more, drop_all, take-append-drop}
 use Rattle.life_cells.specs.declared.cell.Cell.{Cell}
 use Rattle.life_cells.specs.Cells.{cell, cell_cmp, IsRising, Cells, in_order, alive}
 use Rattle.life_cells.specs.Difference.{IsFirstDifference}
 use Rattle.life_cells.specs.Listed.{listed}
 use Rattle.life_cells.specs.Laws.{listed-append_at, from_list-in_order, alive_of_order}
-use Rattle.life_cells.specs.OrderLaws.{cells_total, cells_antisymmetric, same_cell-itself}
+use Rattle.life_cells.specs.OrderLaws.{cells_total, same_cell-itself}
 use Rattle.life_cells.proofs.Merging.{all_after}
 
 -- a cell before all listed ones is not listed
@@ -58,13 +58,6 @@ pub record SameFront (left right : List Cell) (i : ℕ) : Type 0 where
   pub right_in : i ≤ length right
   pub same : take i left ≡ take i right
 
-pub front_more : (left right : List Cell) (i : ℕ) (z : Cell) → i < length left → i < length right → cell_cmp (get_or left i z) (get_or right i z) ≡ Equal → SameFront left right i → SameFront left right (i + 1)
-front_more left right i z li ri tie h = record {
-  left_in = omega arith;
-  right_in = omega arith;
-  same = take_more left i z li ∙ (λ k. h.same k ++ cells_antisymmetric (get_or left i z) (get_or right i z) tie k ∷ []) ∙ sym (take_more right i z ri);
-}
-
 split_at : (cs : List Cell) (i : ℕ) (z : Cell) → i < length cs → cs ≡ take i cs ++ get_or cs i z ∷ drop (i + 1) cs
 split_at cs i z lt = sym (take-append-drop i cs) ∙ ap (λ xs. take i cs ++ xs) (drop_more cs i z lt)
 
@@ -104,9 +97,6 @@ left_longer left right i z li le rises h = left_first left right [] i z li rises
 
 pub right_longer : (left right : List Cell) (i : ℕ) (z : Cell) → i < length right → length left ≤ i → IsRising right → SameFront left right i → IsFirstDifference (get_or right i z) (listed left) (listed right)
 right_longer left right i z ri le rises h = turned_around _ right left (left_longer right left i z ri le rises (front_turned left right i h))
-
-pub same_whole : (left right : List Cell) (i : ℕ) → length left ≤ i → length right ≤ i → SameFront left right i → left ≡ right
-same_whole left right i l r h = sym (take_all i left l) ∙ h.same ∙ take_all i right r
 
 -- ---- sets
 

@@ -145,10 +145,6 @@ listed-append_at cs ds x y = list_any-append (same_cell (cell x y)) cs ds
 pub listed-append : (cs ds : List Cell) → listed (cs ++ ds) ≡ union (listed cs) (listed ds)
 listed-append cs ds = same_plane _ _ (listed-append_at cs ds)
 
--- the set of two lists is the union of their sets
-pub alive-union : (cs ds : List Cell) → alive (from_list (cs ++ ds)) ≡ union (alive (from_list cs)) (alive (from_list ds))
-alive-union cs ds = alive-from_list (cs ++ ds) ∙ listed-append cs ds ∙ (λ i. union (sym (alive-from_list cs) i) (sym (alive-from_list ds) i))
-
 -- ---- the empty set
 
 pub in_order-empty : in_order empty ≡ []

@@ -1,5 +1,5 @@
 -- The laws of the order of cells.
-use Rattle.std.specs.Prelude.{◌≡◌, true, ◌⊎◌, ◌-◌, ◌<◌, ◌<ℤ◌, List, [], ◌∷◌, ◌++◌, length}
+use Rattle.std.specs.Prelude.{◌≡◌, true, ◌⊎◌, ◌<ℤ◌, List, [], ◌∷◌, ◌++◌}
 use Rattle.std.specs.declared.cmp.Ordering.{Ordering}
 use Rattle.std.specs.declared.cmp.Ordering.TheVariants.{Less, Equal, Greater}
 use Rattle.std.specs.Ordering.{int_cmp, ordering_then, ordering_reverse, is_lt, is_eq}
@@ -7,10 +7,8 @@ use Rattle.std.specs.Cmp.{IsTotalOrder, then_total, on_total, int_cmp_total, int
 use Rattle.std.specs.List.{AllByRecursion}
 use Rattle.std.specs.List.Sorted.{IsStrictlySortedBy}
 use Rattle.std.specs.FinSet.{IsAntisymmetric}
-use Rattle.std.proofs.lemmas.Bool.{cases_lt}
-use Rattle.std.proofs.lemmas.Map.Keys.{Less-from_sorted}
-use Rattle.std.proofs.Common.{get_or, refl, sym, ap, ◌∙◌, inl, inr, arith}
-use Rattle.life_plane.specs.ListLaws.{all_push, all_at_places}
+use Rattle.std.proofs.Common.{refl, sym, ap, ◌∙◌, inl, inr}
+use Rattle.life_plane.specs.ListLaws.{all_push}
 use Rattle.life_cells.specs.declared.cell.Cell.{Cell}
 use Rattle.life_cells.specs.Cells.{cell_cmp, IsRising}
 use Rattle.life_cells.specs.Listed.{same_cell}
@@ -84,19 +82,8 @@ pub rising_tail : (c : Cell) (cs : List Cell) → IsRising (c ∷ cs) → IsRisi
 unfolding IsStrictlySortedBy
 rising_tail c cs h = h.1
 
-pub rising-cons : (c : Cell) (cs : List Cell) → AllByRecursion (λ d. cell_cmp c d ≡ Less) cs → IsRising cs → IsRising (c ∷ cs)
-unfolding IsStrictlySortedBy
-rising-cons c cs h k = (h, k)
-
 -- one more cell after all others
 pub rising_push : (cs : List Cell) (d : Cell) → IsRising cs → AllByRecursion (λ c. cell_cmp c d ≡ Less) cs → IsRising (cs ++ d ∷ [])
 unfolding IsStrictlySortedBy
 rising_push [] d h below = (tt, tt)
 rising_push (c ∷ cs) d h below = (all_push (λ e. cell_cmp c e ≡ Less) cs d h.0 below.0, rising_push cs d h.1 below.1)
-
--- one more cell after the last one
-pub rising_push_last : (cs : List Cell) (d z : Cell) → IsRising cs → (0 < length cs → cell_cmp (get_or cs (length cs - 1) z) d ≡ Less) → IsRising (cs ++ d ∷ [])
-rising_push_last cs d z h last = rising_push cs d h (all_at_places (λ c. cell_cmp c d ≡ Less) cs z (λ k lt. elim (cases_lt k (length cs - 1)) [
-  | inl before ↦ cells_total.trans (get_or cs k z) (get_or cs (length cs - 1) z) d (Less-from_sorted cell_cmp cs k (length cs - 1) z h before (omega arith)) (last (omega arith))
-  | inr at ↦ let same : k ≡ length cs - 1 = omega arith in ap (λ i. cell_cmp (get_or cs i z) d) same ∙ last (omega arith)
-]))

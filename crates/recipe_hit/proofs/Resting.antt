@@ -22,11 +22,7 @@ course_range start s t h le same = subst (IsInRange (2 ^ 61)) (sym same) (range_
 pub course_more : (start s next : Plane) (t : ℕ) → s ≡ run t start → next ≡ step s → next ≡ run (t + 1) start
 course_more start s next t same is = is ∙ ap step same ∙ ap (λ k. run k start) (let e : suc t ≡ t + 1 = omega arith in e)
 
--- what a step leaves as it was is still
-pub still_now : (start : Plane) (s next : Cells) (t : ℕ) → alive s ≡ run t start → alive next ≡ step (alive s) → next ≡ s → IsStill (run t start)
-still_now start s next t same is kept = ap step (sym same) ∙ sym is ∙ ap alive kept ∙ same
-
--- and what it changes isn't
+-- what a step changes isn't still
 pub not_still_now : (start : Plane) (s next : Cells) (t : ℕ) → alive s ≡ run t start → alive next ≡ step (alive s) → (next ≡ s → ⊥) → IsStill (run t start) → ⊥
 not_still_now start s next t same is changed still = changed (same_cells next s (is ∙ ap step same ∙ still ∙ sym same))
 
@@ -41,6 +37,3 @@ pub ever_more : (start s : Plane) (box : Bounds) (t : ℕ) → s ≡ run (t + 1)
 ever_more start s box t same h =
     let one : suc t ≡ t + 1 = omega arith in
     subst (λ n. IsLeastBox box (ever n start)) one (subst (λ p. IsLeastBox box (union (ever t start) p)) (same ∙ ap (λ n. run n start) (sym one)) h)
-
-pub never_rests : (start : Plane) → MovesBefore start 4097 → NeverRests start
-never_rests start before t le = before t (omega arith)
