@@ -1,13 +1,13 @@
 -- A text spells one number.
-use Rattle.std.proofs.Common.{◌≡◌, ℕ, ℤ, pos, neg_ℤ, ◌≤ℤ◌, List, [], ◌∷◌, true, inl, inr, sym, ap, ◌∙◌, subst, arith}
+use Rattle.std.proofs.Common.{◌≡◌, ℕ, ℤ, pos, neg_ℤ, ◌≤ℤ◌, List, [], ◌∷◌, true, inl, inr, sym, ap, ◌∙◌, subst}
 use Rattle.std.specs.List.{AllZip}
 use Rattle.std.specs.Str.{all_ascii_digits}
 use Rattle.std.proofs.lemmas.Bool.{false≢true}
 use lib.Signed.{le_z}
-use Rattle.std.proofs.lemmas.Int.{ints}
 use Rattle.book_lines.specs.Values.{IsNumber, IsNumberAt}
 use Rattle.book_lines.specs.Values.Level.{Numbers}
 use Rattle.book_lines.specs.Forms.{AreInOrder}
+use Rattle.life_plane.specs.NumberLaws.{le_from_test, test_from_le}
 
 -- digits begin with no '-'
 no_minus : (digits : List ℕ) → all_ascii_digits (45 ∷ digits) ≡ true → ⊥
@@ -40,12 +40,6 @@ one_list (t ∷ ts) (z ∷ zs) (w ∷ ws) h k =
 pub order_known : (t u : List ℕ) (a b : ℤ) → IsNumber t a → IsNumber u b → a ≤ℤ b → AreInOrder t u
 order_known t u a b h k l = λ low high p q. subst (λ (z : ℤ). z ≤ℤ high) (one_number t a low h p) (subst (λ (z : ℤ). a ≤ℤ z) (one_number u b high k q) l)
 
-le_from : (a b : ℤ) → le_z a b ≡ true → a ≤ℤ b
-le_from a b e = grind (arith, ints)
-
-le_to : (a b : ℤ) → a ≤ℤ b → le_z a b ≡ true
-le_to a b l = grind (arith, ints)
-
 -- the test of their order
 pub order_tested : (t u : List ℕ) (a b : ℤ) → IsNumber t a → IsNumber u b → (le_z a b ≡ true → AreInOrder t u) × (AreInOrder t u → le_z a b ≡ true)
-order_tested t u a b h k = (λ e. order_known t u a b h k (le_from a b e), λ o. le_to a b (o a b h k))
+order_tested t u a b h k = (λ e. order_known t u a b h k (le_from_test e), λ o. test_from_le (o a b h k))

@@ -1,5 +1,5 @@
 -- Counts within their limits.
-use Rattle.std.proofs.Common.{◌≡◌, ℕ, ◌+◌, ◌≤◌, ◌^◌, pos, ◌≤ℤ◌, List, [], ◌∷◌, ◌++◌, length, drop, Option, Some, None, inl, inr, refl, ap, arith}
+use Rattle.std.proofs.Common.{◌≡◌, ℕ, ◌+◌, ◌≤◌, pos, ◌≤ℤ◌, List, [], ◌∷◌, ◌++◌, length, drop, Option, Some, None, inl, inr, refl, ap, arith}
 use Rattle.std.proofs.lemmas.Int.{ints}
 use Rattle.life_cells.specs.Cells.{empty, in_order}
 use Rattle.life_cells.specs.Laws.{in_order-empty}
@@ -12,6 +12,7 @@ use Rattle.book_lines.specs.Counts.{delay_count, lane_count, cell_count, product
 use Rattle.book_read.specs.declared.limit.Limit.TheVariants.{Count}
 use Rattle.book_read.specs.Stated.{Stated, cells_of, product_of, joined}
 use Rattle.book_read.specs.Limited.{Limited, held, numbers, counts, stated_cells, IsFirstOutside, IsOver}
+use Rattle.book_parts.specs.declared.limits.TheConstants.{MOST_CELLS, MOST_DELAYS, MOST_KINDS, MOST_LANES, MOST_SALVOS, MOST_TURNS}
 
 pub behind_none : (ns ms : List Limited) → IsFirstOutside (ns ++ ms) None → IsFirstOutside ms None
 behind_none [] ms h = h
@@ -28,12 +29,12 @@ at_most n most h = omega (arith, ints)
 
 -- the counts, with one statement more
 pub record AreFew (stated : Stated) (s : Statement) : Type 0 where
-  pub kinds : length (joined stated s).kinds ≤ 256
-  pub turns : length (joined stated s).turns ≤ 1024
-  pub salvos : length (joined stated s).salvos ≤ 4096
-  pub delays : delay_count s ≤ 64
-  pub lanes : lane_count s ≤ 64
-  pub cells : stated_cells stated + cell_count s ≤ 2 ^ 18
+  pub kinds : length (joined stated s).kinds ≤ MOST_KINDS
+  pub turns : length (joined stated s).turns ≤ MOST_TURNS
+  pub salvos : length (joined stated s).salvos ≤ MOST_SALVOS
+  pub delays : delay_count s ≤ MOST_DELAYS
+  pub lanes : lane_count s ≤ MOST_LANES
+  pub cells : stated_cells stated + cell_count s ≤ MOST_CELLS
 
 counted : (most n : ℕ) (ns : List Limited) → IsFirstOutside (held (Count most) (pos n) ∷ ns) None → (n ≤ most) × IsFirstOutside ns None
 counted most n ns (inl h) = (at_most n most h.0, h.1)
@@ -42,12 +43,12 @@ counted most n ns (inr h) = absurd (cc h.1)
 pub few : (stated : Stated) (s : Statement) → IsOver stated s None → AreFew stated s
 few stated s h =
     let ns = counts stated s in
-    let a = counted 256 (length (joined stated s).kinds) (drop 1 ns) (behind_none (numbers s) ns h) in
-    let b = counted 1024 (length (joined stated s).turns) (drop 2 ns) a.1 in
-    let d = counted 4096 (length (joined stated s).salvos) (drop 3 ns) b.1 in
-    let e = counted 64 (delay_count s) (drop 4 ns) d.1 in
-    let f = counted 64 (lane_count s) (drop 5 ns) e.1 in
-    let g = counted (2 ^ 18) (stated_cells stated + cell_count s) (drop 6 ns) f.1 in
+    let a = counted MOST_KINDS (length (joined stated s).kinds) (drop 1 ns) (behind_none (numbers s) ns h) in
+    let b = counted MOST_TURNS (length (joined stated s).turns) (drop 2 ns) a.1 in
+    let d = counted MOST_SALVOS (length (joined stated s).salvos) (drop 3 ns) b.1 in
+    let e = counted MOST_DELAYS (delay_count s) (drop 4 ns) d.1 in
+    let f = counted MOST_LANES (lane_count s) (drop 5 ns) e.1 in
+    let g = counted MOST_CELLS (stated_cells stated + cell_count s) (drop 6 ns) f.1 in
     record { kinds = a.0; turns = b.0; salvos = d.0; delays = e.0; lanes = f.0; cells = g.0 }
 
 -- a body has no more cells than it counts

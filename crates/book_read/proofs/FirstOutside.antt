@@ -1,5 +1,5 @@
 -- The first number outside its limits, among the numbers of lists.
-use Rattle.std.proofs.Common.{◌≡◌, ℕ, ◌+◌, ◌<◌, ◌≤◌, ℤ, List, [], ◌∷◌, ◌++◌, length, take, get_or, map, flat_map, inl, inr, Option, Some, None, zero, suc, refl, sym, ap, subst, arith, add-one, true, false, is_some}
+use Rattle.std.proofs.Common.{◌≡◌, ℕ, ◌+◌, ◌<◌, ℤ, List, [], ◌∷◌, ◌++◌, length, take, get_or, map, flat_map, inl, inr, Option, Some, None, zero, suc, refl, sym, ap, subst, arith, add-one, true, false, is_some}
 use Rattle.book_read.specs.declared.limit.Limit.{Limit}
 use Rattle.std.specs.Option.{option_or}
 use Rattle.book_read.specs.Limited.{Limited, held, IsFirstOutside}
@@ -58,8 +58,3 @@ pub one_each : (limit : Limit) (zs : List ℤ) → flat_map (λ z. held limit z 
 one_each limit [] = refl
 one_each limit (z ∷ zs) = ap (λ (ns : List Limited). held limit z ∷ ns) (one_each limit zs)
 
-pub all_taken : {V : Type 0} (xs : List V) (i : ℕ) → length xs ≤ i → take i xs ≡ xs
-all_taken [] zero l = refl
-all_taken [] (suc i) l = refl
-all_taken (x ∷ xs) zero l = absurd (omega arith)
-all_taken (x ∷ xs) (suc i) l = ap (λ (ys : List _). x ∷ ys) (all_taken xs i (omega arith))

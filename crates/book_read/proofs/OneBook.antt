@@ -1,5 +1,5 @@
 -- A text says one book at most.
-use Rattle.std.proofs.Common.{◌≡◌, ℕ, ◌+◌, true, false, not, List, [], ◌∷◌, ◌++◌, length, filter, Some, inl, inr, ◌==◌, eqb, refl, sym, ap, ◌∙◌, subst, arith}
+use Rattle.std.proofs.Common.{◌≡◌, ℕ, ◌+◌, true, false, not, List, [], ◌∷◌, ◌++◌, length, filter, inl, inr, ◌==◌, eqb, refl, sym, ap, ◌∙◌, subst, arith}
 use Rattle.std.specs.List.{AllByRecursion, onto_first}
 use Rattle.std.specs.Str.Lines.{lines}
 use Rattle.std.proofs.lemmas.Bool.{false≢true, ne_eqb}
@@ -11,6 +11,7 @@ use Rattle.book_read.specs.Reading.{AreFine, IsVersion, IsBegun}
 use Rattle.book_read.specs.Book.{Said, whole, AreRead, Says}
 use Rattle.text_lines.specs.LineLaws.{split_some}
 use Rattle.book_read.proofs.LineLaws.{LineLaws}
+use Rattle.std.proofs.lemmas.Option.{same_Some}
 
 -- ---- the version's line isn't passed over
 
@@ -79,22 +80,19 @@ read_once laws ls a b h k =
     let r = begun_once ls h.number k.number h.body k.body h.begun k.begun in
     fine_once laws nothing_stated k.body a b (subst (λ (body : List (List ℕ)). AreFine nothing_stated body a) r.1 h.fine) k.fine
 
-some_once : {V : Type 0} (a b : V) → Some a ≡ Some b → a ≡ b
-some_once a b e = cc
-
 -- a book is known by what is stated
 pub whole_once : (a b : Said) → whole a ≡ whole b → a ≡ b
 whole_once a b e =
-    let approach = some_once a.settings.approach b.settings.approach (ap (λ (s : Stated). s.approach) e) in
-    let wall = some_once a.settings.wall b.settings.wall (ap (λ (s : Stated). s.wall) e) in
-    let reach = some_once a.settings.reach b.settings.reach (ap (λ (s : Stated). s.reach) e) in
-    let corner = some_once a.settings.corner b.settings.corner (ap (λ (s : Stated). s.corner) e) in
-    let room = some_once a.settings.room b.settings.room (ap (λ (s : Stated). s.room) e) in
-    let span = some_once a.settings.span b.settings.span (ap (λ (s : Stated). s.span) e) in
-    let lanes = some_once a.settings.lanes b.settings.lanes (ap (λ (s : Stated). s.lanes) e) in
-    let delays = some_once a.settings.delays b.settings.delays (ap (λ (s : Stated). s.delays) e) in
-    let hand = some_once a.hand b.hand (ap (λ (s : Stated). s.hand) e) in
-    let start = some_once a.start b.start (ap (λ (s : Stated). s.start) e) in
+    let approach = same_Some a.settings.approach b.settings.approach (ap (λ (s : Stated). s.approach) e) in
+    let wall = same_Some a.settings.wall b.settings.wall (ap (λ (s : Stated). s.wall) e) in
+    let reach = same_Some a.settings.reach b.settings.reach (ap (λ (s : Stated). s.reach) e) in
+    let corner = same_Some a.settings.corner b.settings.corner (ap (λ (s : Stated). s.corner) e) in
+    let room = same_Some a.settings.room b.settings.room (ap (λ (s : Stated). s.room) e) in
+    let span = same_Some a.settings.span b.settings.span (ap (λ (s : Stated). s.span) e) in
+    let lanes = same_Some a.settings.lanes b.settings.lanes (ap (λ (s : Stated). s.lanes) e) in
+    let delays = same_Some a.settings.delays b.settings.delays (ap (λ (s : Stated). s.delays) e) in
+    let hand = same_Some a.hand b.hand (ap (λ (s : Stated). s.hand) e) in
+    let start = same_Some a.start b.start (ap (λ (s : Stated). s.start) e) in
     λ i. record {
       settings = record { approach = approach i; wall = wall i; reach = reach i; corner = corner i; room = room i; span = span i; lanes = lanes i; delays = delays i };
       hand = hand i;

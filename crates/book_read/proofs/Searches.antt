@@ -38,12 +38,6 @@ not_at_place name_of (w ∷ vs) name (suc k) v h e same = not_at_place name_of v
 pub found_at : {V : Type 0} (vs : List V) (i : ℕ) (here : V) → i < length vs → here ≡ get_or vs i here → slice_get vs i ≡ Some here
 found_at vs i here l is = slice_get-get_or vs i here l ∙ ap Some (sym is)
 
--- what is at a place is within the list
-pub place_within : {V : Type 0} (vs : List V) (i : ℕ) (v : V) → slice_get vs i ≡ Some v → i < length vs
-place_within [] i v e = absurd (cc e)
-place_within (w ∷ vs) zero v e = omega arith
-place_within (w ∷ vs) (suc i) v e = let l = place_within vs i v e in omega arith
-
 -- none of two lists
 pub none_of_both : (names others : List (List ℕ)) (name : List ℕ) → IsNoneOf names name → IsNoneOf others name → IsNoneOf (names ++ others) name
 none_of_both [] others name h k = k

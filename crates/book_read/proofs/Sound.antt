@@ -1,5 +1,5 @@
 -- What fine lines have stated is proper.
-use Rattle.std.proofs.Common.{◌≡◌, ◌≢◌, ℕ, ◌+◌, ◌<◌, ◌≤◌, ◌^◌, ℤ, pos, negsuc, nat_abs, ◌≤ℤ◌, ◌+ℤ◌, List, [], ◌∷◌, ◌++◌, length, sum_by, Option, Some, None, IfSome, IsSome, unwrap_or, inl, inr, refl, sym, ap, ◌∙◌, subst, arith}
+use Rattle.std.proofs.Common.{◌≡◌, ◌≢◌, ℕ, ◌+◌, ◌<◌, ◌≤◌, ℤ, pos, negsuc, nat_abs, ◌≤ℤ◌, ◌+ℤ◌, List, [], ◌∷◌, ◌++◌, length, Option, Some, None, IfSome, IsSome, unwrap_or, inl, inr, refl, sym, ap, ◌∙◌, subst, arith}
 use Rattle.std.proofs.Common.{Bool, true, false, zero, suc, slice_get, flat_map, map, ◌-ℤ◌, append_assoc}
 use Rattle.std.specs.List.{AllZip}
 use Rattle.std.specs.Str.{bytes_eq}
@@ -39,7 +39,7 @@ use Rattle.std.proofs.lemmas.Int.{ints}
 use Rattle.std.proofs.lemmas.List.{length-append}
 use Rattle.life_cells.specs.Cells.{Cells, alive}
 use Rattle.life_cells.specs.declared.cell.Cell.{Cell}
-use Rattle.book_parts.specs.Limits.{IsFrom, IsApproach, IsCoordinate, AreLanes, AreGaps, AreProper}
+use Rattle.book_parts.specs.Limits.{IsFrom, IsApproach, IsCoordinate, AreLanes, AreGaps}
 use Rattle.book_parts.specs.declared.settings.Range.{Range}
 use Rattle.book_lines.specs.declared.statement.Statement.{Statement}
 use Rattle.book_lines.specs.declared.statement.Statement.TheVariants.{Approach, Wall, Reach, Corner, Room, Span, Lanes, Delays, Hand, Elbow, Start, Turn, Salvo}
@@ -50,6 +50,7 @@ use Rattle.book_read.specs.declared.limit.Limit.TheVariants as limit
 use Rattle.book_read.specs.Joining.{IsFine}
 use Rattle.book_read.specs.Reading.{AreFine}
 use Rattle.book_read.proofs.Counted.{front_none}
+use Rattle.book_parts.specs.declared.limits.TheConstants.{GREATEST_REACH, GREATEST_ROOM, GREATEST_SPAN, GREATEST_WALL, LONGEST_TURN, MOST_CELLS, MOST_GAPS, MOST_KINDS, MOST_LANES, MOST_SALVOS, MOST_TURNS}
 
 -- the first of numbers within their limits is within its
 pub first_within : (n : Limited) (ns : List Limited) → IsFirstOutside (n ∷ ns) None → IsWithin n.limit n.number × IsFirstOutside ns None
@@ -61,11 +62,11 @@ first_within n ns (inr h) = absurd (cc h.1)
 -- each setting that is stated is within its limits
 pub record AreSettings (stated : Stated) : Type 0 where
   pub approach : IfSome stated.approach IsApproach
-  pub wall : IfSome stated.wall (λ z. IsFrom (pos 1) (pos 4096) z)
-  pub reach : IfSome stated.reach (λ z. IsFrom (pos 1) (pos 65536) z)
+  pub wall : IfSome stated.wall (λ z. IsFrom (pos 1) GREATEST_WALL z)
+  pub reach : IfSome stated.reach (λ z. IsFrom (pos 1) GREATEST_REACH z)
   pub corner : IfSome stated.corner (λ (c : Cell). IsCoordinate c.x × IsCoordinate c.y)
-  pub room : IfSome stated.room (λ z. IsFrom (pos 0) (pos 512) z)
-  pub span : IfSome stated.span (λ z. IsFrom (pos 0) (pos (2 ^ 27)) z)
+  pub room : IfSome stated.room (λ z. IsFrom (pos 0) GREATEST_ROOM z)
+  pub span : IfSome stated.span (λ z. IsFrom (pos 0) GREATEST_SPAN z)
   pub lanes : IfSome stated.lanes AreLanes
   pub delays : IfSome stated.delays AreGaps
 
@@ -76,11 +77,11 @@ settings_same : (stated after : Stated) → AreSettings stated → after.approac
     → after.room ≡ stated.room → after.span ≡ stated.span → after.lanes ≡ stated.lanes → after.delays ≡ stated.delays → AreSettings after
 settings_same stated after h a b c d e f g k = record {
   approach = subst (λ (o : Option ℤ). IfSome o IsApproach) (sym a) h.approach;
-  wall = subst (λ (o : Option ℤ). IfSome o (λ z. IsFrom (pos 1) (pos 4096) z)) (sym b) h.wall;
-  reach = subst (λ (o : Option ℤ). IfSome o (λ z. IsFrom (pos 1) (pos 65536) z)) (sym c) h.reach;
+  wall = subst (λ (o : Option ℤ). IfSome o (λ z. IsFrom (pos 1) GREATEST_WALL z)) (sym b) h.wall;
+  reach = subst (λ (o : Option ℤ). IfSome o (λ z. IsFrom (pos 1) GREATEST_REACH z)) (sym c) h.reach;
   corner = subst (λ (o : Option Cell). IfSome o (λ (p : Cell). IsCoordinate p.x × IsCoordinate p.y)) (sym d) h.corner;
-  room = subst (λ (o : Option ℤ). IfSome o (λ z. IsFrom (pos 0) (pos 512) z)) (sym e) h.room;
-  span = subst (λ (o : Option ℤ). IfSome o (λ z. IsFrom (pos 0) (pos (2 ^ 27)) z)) (sym f) h.span;
+  room = subst (λ (o : Option ℤ). IfSome o (λ z. IsFrom (pos 0) GREATEST_ROOM z)) (sym e) h.room;
+  span = subst (λ (o : Option ℤ). IfSome o (λ z. IsFrom (pos 0) GREATEST_SPAN z)) (sym f) h.span;
   lanes = subst (λ (o : Option Range). IfSome o AreLanes) (sym g) h.lanes;
   delays = subst (λ (o : Option Range). IfSome o AreGaps) (sym k) h.delays;
 }
@@ -112,7 +113,7 @@ settings_joined stated line (Span z) h says over =
 settings_joined stated line (Lanes s) h says over =
     let low = first_within (held limit.Coordinate s.low) (held limit.Coordinate s.high ∷ (held limit.LanesLength s.len ∷ [])) (front_none (numbers (Lanes s)) (counts stated (Lanes s)) over) in
     let high = first_within (held limit.Coordinate s.high) (held limit.LanesLength s.len ∷ []) low.1 in
-    let len = some_length s.len 64 (first_within (held limit.LanesLength s.len) [] high.1).0 in
+    let len = some_length s.len MOST_LANES (first_within (held limit.LanesLength s.len) [] high.1).0 in
     let is = says.items_are in
     record {
       approach = h.approach;
@@ -127,7 +128,7 @@ settings_joined stated line (Lanes s) h says over =
 settings_joined stated line (Delays s) h says over =
     let low = first_within (held limit.LeastGap s.low) (held limit.GreatestGap s.high ∷ (held limit.GapsLength s.len ∷ [])) (front_none (numbers (Delays s)) (counts stated (Delays s)) over) in
     let high = first_within (held limit.GreatestGap s.high) (held limit.GapsLength s.len ∷ []) low.1 in
-    let len = any_length s.len 63 (first_within (held limit.GapsLength s.len) [] high.1).0 in
+    let len = any_length s.len MOST_GAPS (first_within (held limit.GapsLength s.len) [] high.1).0 in
     let is = says.items_are in
     record {
       approach = h.approach;
@@ -181,7 +182,7 @@ pub record IsDrawn (word : List ℕ) (at : Cell) (body : Body) : Type 0 where
   pub means : WordMeans word drawn
   pub moved : alive (cells_of body) ≡ shift at.x at.y drawn
 
-body_drawn : (word : List ℕ) (at : Cell) (body : Body) → IsBodyAt Level.Whole word at body → IsFirstOutside (body_numbers body) None → body_count body ≤ 2 ^ 18 → IsDrawn word at body
+body_drawn : (word : List ℕ) (at : Cell) (body : Body) → IsBodyAt Level.Whole word at body → IsFirstOutside (body_numbers body) None → body_count body ≤ MOST_CELLS → IsDrawn word at body
 body_drawn word at (Drawn cells) h outside few =
     record { lives = h.1; placed = cells_placed cells outside; drawn = h.0.1.0; means = h.0.1.1.0; moved = h.0.1.1.1 }
 body_drawn word at (TooMany count) h outside few = let many = h.0.fault.many in absurd (omega arith)
@@ -311,17 +312,17 @@ zip_length R (t ∷ ts) [] h = absurd h
 zip_length R (t ∷ ts) (v ∷ vs) h = let e = zip_length R ts vs h.1 in omega arith
 
 end_proper : (kinds : List RawKind) (leaves : Leaves) (n : ℤ) → AllByRecursion (λ name. IsSome (number_of kinds name)) (kinds_left leaves) → IsFirstOutside (leaves_numbers leaves n) None
-    → IsProperEnd (length kinds) (end_of kinds leaves) × (nat_abs n ≤ 65536)
-end_proper kinds Close n known h = (tt, any_length n 65536 (first_within (held limit.Time n) [] h).0)
+    → IsProperEnd (length kinds) (end_of kinds leaves) × (nat_abs n ≤ LONGEST_TURN)
+end_proper kinds Close n known h = (tt, any_length n LONGEST_TURN (first_within (held limit.Time n) [] h).0)
 end_proper kinds (Move kind shift) n known h =
     let a = first_within (held limit.Coordinate shift) (held limit.Time n ∷ []) h in
-    ((known_proper kinds kind known.0, a.0), any_length n 65536 (first_within (held limit.Time n) [] a.1).0)
+    ((known_proper kinds kind known.0, a.0), any_length n LONGEST_TURN (first_within (held limit.Time n) [] a.1).0)
 end_proper kinds (Emit kind shift lane j) n known h =
     let a = first_within (held limit.Coordinate shift) (held limit.Time n ∷ (held limit.Coordinate lane ∷ (held limit.Index j ∷ []))) h in
     let b = first_within (held limit.Time n) (held limit.Coordinate lane ∷ (held limit.Index j ∷ [])) a.1 in
     let c = first_within (held limit.Coordinate lane) (held limit.Index j ∷ []) b.1 in
     let d = first_within (held limit.Index j) [] c.1 in
-    ((known_proper kinds kind known.0, (a.0, (c.0, d.0))), any_length n 65536 b.0)
+    ((known_proper kinds kind known.0, (a.0, (c.0, d.0))), any_length n LONGEST_TURN b.0)
 
 turn_proper : (stated : Stated) (line : List ℕ) (turn : TurnLine) → States line (Turn turn) → KnowsKinds stated (Turn turn) → IsOver stated (Turn turn) None → IsProperTurn (length stated.kinds) (turn_of stated.kinds turn)
 turn_proper stated line turn says known over =
@@ -437,10 +438,10 @@ pub record IsSound (stated : Stated) : Type 0 where
   pub turns : AllByRecursion (IsProperTurn (length stated.kinds)) stated.turns
   pub salvos : AllByRecursion IsProperSalvo stated.salvos
   pub names : AreDistinct (entry_names stated)
-  pub few_kinds : length stated.kinds ≤ 256
-  pub few_turns : length stated.turns ≤ 1024
-  pub few_salvos : length stated.salvos ≤ 4096
-  pub few_cells : stated_cells stated ≤ 2 ^ 18
+  pub few_kinds : length stated.kinds ≤ MOST_KINDS
+  pub few_turns : length stated.turns ≤ MOST_TURNS
+  pub few_salvos : length stated.salvos ≤ MOST_SALVOS
+  pub few_cells : stated_cells stated ≤ MOST_CELLS
 
 nothing_sound : IsSound nothing_stated
 nothing_sound = record {

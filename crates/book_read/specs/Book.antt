@@ -1,5 +1,5 @@
 -- What a book's text says, or why it says no book.
-use Rattle.std.specs.Prelude.{◌≡◌, ◌≢◌, ℕ, ◌+ℤ◌, ◌<ℤ◌, pos, List, []}
+use Rattle.std.specs.Prelude.{◌≡◌, ◌≢◌, ℕ, ◌+ℤ◌, ◌<ℤ◌, List, []}
 use Rattle.std.specs.Str.Lines.{lines}
 use Rattle.std.specs.declared.option.Option.TheVariants.{Some}
 use Rattle.book_parts.specs.declared.limits.TheConstants.{WALL_MARGIN}

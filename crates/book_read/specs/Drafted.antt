@@ -1,5 +1,5 @@
 -- What a draft of a book has.
-use Rattle.std.specs.Prelude.{◌≡◌, ◌≢◌, ◌⊎◌, ◌≤◌, ◌^◌, ◌+ℤ◌, ◌<ℤ◌, pos, ℕ, List, [], length}
+use Rattle.std.specs.Prelude.{◌≡◌, ◌≢◌, ◌⊎◌, ◌≤◌, ◌+ℤ◌, ◌<ℤ◌, ℕ, List, [], length}
 use Rattle.book_lines.specs.declared.fault.LineFault.TheVariants.{Version}
 use Rattle.book_read.specs.declared.error.BookError.{BookError}
 use Rattle.book_read.specs.declared.error.BookError.TheVariants.{BadLine, Missing, WallReach, Memory}

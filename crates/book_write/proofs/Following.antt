@@ -33,9 +33,10 @@ use Rattle.book_write.specs.Canonical.{IsBookText}
 use Rattle.book_write.proofs.Visible.{IsWord}
 use Rattle.book_write.proofs.Splitting.{words_are, lines_are}
 use Rattle.book_write.proofs.Numerals.{IsShort, short_from}
-use Rattle.book_write.proofs.Within.{IsHeld, all_both, AreFew, not_over, each_held, body_held}
+use Rattle.book_write.proofs.Within.{IsHeld, AreFew, not_over, each_held, body_held}
 use Rattle.book_write.proofs.Stating.{IsLineFor, approach_line, wall_line, reach_line, corner_line, room_line, span_line, lanes_line, delays_line, IsShortRange, short_coordinate, spread_of, hand_line, elbow_of, kind_line, start_line, leaves_of, turn_told, HasNext, turn_line, salvo_told, salvo_line}
 use Rattle.book_write.proofs.Distinct.{none_before, kind_known, name_of_kind}
+use Rattle.life_plane.specs.ListLaws.{all_append}
 
 -- ---- lines behind what is stated
 
@@ -60,7 +61,7 @@ fine_both a b c (l ∷ ls) ms (inr h) k = inr (h.0, (h.1.0, (h.1.1.0, fine_both 
 
 lines_both : (a b c : Stated) (ls ms : List (List (List ℕ))) → AreFineFor a ls b → AreFineFor b ms c → AreFineFor a (ls ++ ms) c
 lines_both a b c ls ms h k = record {
-  each = all_both (AllByRecursion IsWord) ls ms h.each k.each;
+  each = all_append (AllByRecursion IsWord) ls ms h.each k.each;
   fine = subst (λ (ts : List (List ℕ)). AreFine a ts c) (sym (map-append line_of ls ms)) (fine_both a b c (map line_of ls) (map line_of ms) h.fine k.fine);
 }
 
@@ -218,7 +219,7 @@ turns_fine book p front (turn ∷ back) e h =
     line_first a _ (turn_words kinds turn) s (map (turn_words kinds) back) (turn_line kinds turn h.0 (name_of_kind kinds turn.kind h.0.kind p.kinds) (next_named kinds turn.end h.0.leaves p.kinds))
     (subst (λ (ns : List (List ℕ)). IsNoneOf ns turn.name) (sym (append-nil (map name front))) new)
     ((kind_known kinds turn.kind h.0.kind p.kind_names).known, next_known kinds turn.end h.0.leaves p.kind_names)
-    (not_over a s (all_both IsHeld (leaves_numbers (leaves_of kinds turn.end) (pos turn.n)) (map (held limit.Delay) turn.delays) (ending_held kinds turn.end turn.n h.0.leaves h.0.short) (each_held limit.Delay turn.delays h.0.delays))
+    (not_over a s (all_append IsHeld (leaves_numbers (leaves_of kinds turn.end) (pos turn.n)) (map (held limit.Delay) turn.delays) (ending_held kinds turn.end turn.n h.0.leaves h.0.short) (each_held limit.Delay turn.delays h.0.delays))
     (record { kinds = few_kinds; turns = omega arith; salvos = omega arith; delays = few_delays; lanes = omega arith; cells = omega arith }))
     (subst (λ (t : RawTurn). AreFineFor (told book kinds (Some book.start) (front ++ (t ∷ [])) []) (map (turn_words kinds) back) (told book kinds (Some book.start) book.turns [])) (sym (turn_back kinds turn h.0 p.kind_names))
     (turns_fine book p (front ++ (turn ∷ [])) back (e ∙ sym (append_assoc front (turn ∷ []) back)) h.1))
@@ -253,7 +254,7 @@ salvos_fine book p front (salvo ∷ back) (words ∷ ls) e h z =
     let turn_names = map (λ (t : RawTurn). t.name) book.turns in
     let names = ap (λ (ns : List (List ℕ)). turn_names ++ ns) (ap (map name) e ∙ map-append name front (salvo ∷ back)) ∙ sym (append_assoc turn_names (map name front) (salvo.name ∷ map name back)) in
     line_first a _ words s ls r.line (none_before (turn_names ++ map name front) salvo.name (map name back) (subst AreDistinct names p.names)) tt
-    (not_over a s (all_both IsHeld (map (held limit.Coordinate) salvo.lanes) (product_numbers r.product ++ place_numbers salvo.hand) (each_held limit.Coordinate salvo.lanes h.0.lanes) (all_both IsHeld (product_numbers r.product) (place_numbers salvo.hand) r.held_all (hand_held salvo.hand h.0.hand)))
+    (not_over a s (all_append IsHeld (map (held limit.Coordinate) salvo.lanes) (product_numbers r.product ++ place_numbers salvo.hand) (each_held limit.Coordinate salvo.lanes h.0.lanes) (all_append IsHeld (product_numbers r.product) (place_numbers salvo.hand) r.held_all (hand_held salvo.hand h.0.hand)))
     (record { kinds = few_kinds; turns = few_turns; salvos = omega arith; delays = omega arith; lanes = few_lanes; cells = omega arith }))
     (subst (λ (v : RawSalvo). AreFineFor (told book book.kinds (Some book.start) book.turns (front ++ (v ∷ []))) ls (told book book.kinds (Some book.start) book.turns book.salvos)) (sym same)
     (salvos_fine book p (front ++ (salvo ∷ [])) back ls (e ∙ sym (append_assoc front (salvo ∷ []) back)) h.1 z.1))

@@ -4,6 +4,7 @@ use Rattle.std.specs.List.{AllByRecursion, AllZip, flat_map}
 use Rattle.std.proofs.lemmas.List.{append_assoc, append-nil, take_more, flat_map_more}
 use Rattle.std.proofs.lemmas.List.Concat.{flat_map-append}
 use Rattle.book_write.specs.Laid.{spaced, ended_line, text_of, AppendsLine, AppendsLines}
+use Rattle.std.proofs.lemmas.Slice.Zip.{all_zipped_more}
 
 -- the texts of these were appended, one after the other
 abbrev pub AreLaid : {X : Type 0} → (X → List ℕ) → List ℕ → List X → List ℕ → Type 0
@@ -50,12 +51,6 @@ all_at P [] i d h l = absurd (omega arith)
 all_at P (x ∷ xs) zero d h l = h.0
 all_at P (x ∷ xs) (suc i) d h l = all_at P xs i d h.1 (omega arith)
 
-all_zip_push : {X Y : Type 0} (R : X → Y → Type 0) (xs : List X) (ys : List Y) (x : X) (y : Y) → AllZip R xs ys → R x y → AllZip R (xs ++ (x ∷ [])) (ys ++ (y ∷ []))
-all_zip_push R [] [] x y h r = (r, tt)
-all_zip_push R [] (b ∷ ys) x y h r = absurd h
-all_zip_push R (a ∷ xs) [] x y h r = absurd h
-all_zip_push R (a ∷ xs) (b ∷ ys) x y h r = (h.0, all_zip_push R xs ys x y h.1 r)
-
 -- one more line, that of the element at the place
 pub lines_push : {X : Type 0} (R : X → List (List ℕ) → Type 0) (xs : List X) (i : ℕ) (d : X) (old mid new : List ℕ) → i < length xs
     → AppendsLines old mid (AllZip R (take i xs)) → AppendsLine mid new (R (get_or xs i d)) → AppendsLines old new (AllZip R (take (i + 1) xs))
@@ -63,6 +58,6 @@ lines_push R xs i d old mid new l (lines, (before, each)) (words, (more, last)) 
   lines ++ (words ∷ []),
   (
     more ∙ ap (λ (t : List ℕ). t ++ ended_line words) before ∙ flat_map_more ended_line old lines words,
-    subst (λ (ys : List _). AllZip R ys (lines ++ (words ∷ []))) (sym (take_more xs i d l)) (all_zip_push R (take i xs) lines (get_or xs i d) words each last),
+    subst (λ (ys : List _). AllZip R ys (lines ++ (words ∷ []))) (sym (take_more xs i d l)) (all_zipped_more R (take i xs) lines (get_or xs i d) words each last),
   ),
 )

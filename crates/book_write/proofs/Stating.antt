@@ -46,7 +46,8 @@ use Rattle.book_write.proofs.Splitting.{words_are, begins_late, not_passed_over}
 use Rattle.book_write.proofs.Numerals.{IsShort, short_from, number_word, number_is, number_at, one_number, number_words, numbers_at}
 use Rattle.book_write.proofs.Moving.{near_box, moved_range, range_placed}
 use Rattle.book_write.proofs.BodyWords.{IsReadBody, word_reads_back}
-use Rattle.book_write.proofs.Within.{IsHeld, all_both, body_held}
+use Rattle.book_write.proofs.Within.{IsHeld, body_held}
+use Rattle.life_plane.specs.ListLaws.{all_append}
 
 -- ---- a line and its words
 
@@ -310,7 +311,7 @@ ending_for kinds (ending.Emit kind shift lane j) n p k h =
     let thrown = place_words (cell lane j) in
     record {
       is = (step_words (kind_name kinds kind) shift n ++ thrown, (thrown, (refl, (step_is (kind_name kinds kind) shift n thrown k d s, pair_is (cell lane j) l i))));
-      each = (word_of_emit, all_both IsWord (step_words (kind_name kinds kind) shift n) thrown (step_each (kind_name kinds kind) shift n k d s) (place_each (cell lane j) l i));
+      each = (word_of_emit, all_append IsWord (step_words (kind_name kinds kind) shift n) thrown (step_each (kind_name kinds kind) shift n k d s) (place_each (cell lane j) l i));
     }
 
 short_delays : (zs : List ℤ) → AllByRecursion IsDelay zs → AllByRecursion IsShort zs
@@ -323,7 +324,7 @@ turn_line kinds turn p k next =
     let short = short_delays turn.delays p.delays in
     let items = turn.name ∷ (kind_name kinds turn.kind ∷ (ending_words kinds turn.end turn.n ++ (codes ":" ∷ map signed_decimal turn.delays))) in
     line_for (Turn (turn_told kinds turn)) items
-    (name_word turn.name p.name, (name_word (kind_name kinds turn.kind) k, all_both IsWord (ending_words kinds turn.end turn.n) (codes ":" ∷ map signed_decimal turn.delays) e.each (colon_word, number_words turn.delays short)))
+    (name_word turn.name p.name, (name_word (kind_name kinds turn.kind) k, all_append IsWord (ending_words kinds turn.end turn.n) (codes ":" ∷ map signed_decimal turn.delays) e.each (colon_word, number_words turn.delays short)))
     (record { ending = ending_words kinds turn.end turn.n; delays = map signed_decimal turn.delays; items_are = refl; name_is = p.name; kind_is = k; ending_is = e.is; delays_are = numbers_at turn.delays short p.some })
 
 -- ---- salvos
@@ -380,5 +381,5 @@ salvo_line salvo words h p few =
     let items = salvo.name ∷ (codes ":" ∷ (lanes ++ behind)) in
     let form : IsSalvoForm Whole (salvo_told salvo r.product) items = record { lanes = lanes; product = h.product; hand = hand; items_are = refl; name_is = p.name; lanes_are = numbers_at salvo.lanes short p.some; product_is = r.is; hand_is = hand_is salvo.hand p.hand } in
     let made = line_for said items
-    (name_word salvo.name p.name, (colon_word, all_both IsWord lanes behind (number_words salvo.lanes short) (colon_word, all_both IsWord h.product (codes ":" ∷ hand) r.each (colon_word, hand_each salvo.hand p.hand)))) form in
+    (name_word salvo.name p.name, (colon_word, all_append IsWord lanes behind (number_words salvo.lanes short) (colon_word, all_append IsWord h.product (codes ":" ∷ hand) r.each (colon_word, hand_each salvo.hand p.hand)))) form in
     record { product = r.product; line = subst (λ (ws : List (List ℕ)). IsLineFor ws said) (sym h.words_are) made; same = r.same; held_all = r.held_all; count = r.count }

@@ -1,5 +1,5 @@
 -- What is written is within the limits.
-use Rattle.std.proofs.Common.{◌≡◌, ℕ, ◌+◌, ◌≤◌, ◌^◌, true, ℤ, pos, ◌≤ℤ◌, List, [], ◌∷◌, ◌++◌, length, map, refl, ap, ◌∙◌, inl, arith, None}
+use Rattle.std.proofs.Common.{◌≡◌, ℕ, ◌+◌, ◌≤◌, true, ℤ, pos, ◌≤ℤ◌, List, [], ◌∷◌, ◌++◌, length, map, refl, ap, ◌∙◌, inl, arith, None}
 use Rattle.std.specs.List.{AllByRecursion, flat_map}
 use Rattle.std.proofs.lemmas.Int.{ints}
 use Rattle.life_plane.specs.Plane.{Plane}
@@ -13,13 +13,11 @@ use Rattle.book_lines.specs.Counts.{delay_count, lane_count, cell_count}
 use Rattle.book_read.specs.declared.limit.Limit.{Limit}
 use Rattle.book_read.specs.Stated.{Stated, joined}
 use Rattle.book_read.specs.Limited.{IsWithin, Limited, held, cell_numbers, numbers, counts, stated_cells, IsFirstOutside, IsOver}
+use Rattle.life_plane.specs.ListLaws.{all_append}
+use Rattle.book_parts.specs.declared.limits.TheConstants.{MOST_CELLS, MOST_DELAYS, MOST_KINDS, MOST_LANES, MOST_SALVOS, MOST_TURNS}
 
 abbrev pub IsHeld : Limited → Type 0
 IsHeld n = IsWithin n.limit n.number
-
-pub all_both : {X : Type 0} (P : X → Type 0) (xs ys : List X) → AllByRecursion P xs → AllByRecursion P ys → AllByRecursion P (xs ++ ys)
-all_both P [] ys h k = k
-all_both P (x ∷ xs) ys h k = (h.0, all_both P xs ys h.1 k)
 
 none_outside : (ns : List Limited) → AllByRecursion IsHeld ns → IsFirstOutside ns None
 none_outside [] h = refl
@@ -30,18 +28,18 @@ counted n most h = omega (arith, ints)
 
 -- the counts with a line
 pub record AreFew (stated : Stated) (s : Statement) : Type 0 where
-  pub kinds : length (joined stated s).kinds ≤ 256
-  pub turns : length (joined stated s).turns ≤ 1024
-  pub salvos : length (joined stated s).salvos ≤ 4096
-  pub delays : delay_count s ≤ 64
-  pub lanes : lane_count s ≤ 64
-  pub cells : stated_cells stated + cell_count s ≤ 2 ^ 18
+  pub kinds : length (joined stated s).kinds ≤ MOST_KINDS
+  pub turns : length (joined stated s).turns ≤ MOST_TURNS
+  pub salvos : length (joined stated s).salvos ≤ MOST_SALVOS
+  pub delays : delay_count s ≤ MOST_DELAYS
+  pub lanes : lane_count s ≤ MOST_LANES
+  pub cells : stated_cells stated + cell_count s ≤ MOST_CELLS
 
 pub not_over : (stated : Stated) (s : Statement) → AllByRecursion IsHeld (numbers s) → AreFew stated s → IsOver stated s None
 not_over stated s h few =
     none_outside (numbers s ++ counts stated s)
-    (all_both IsHeld (numbers s) (counts stated s) h
-    (counted _ 256 few.kinds, (counted _ 1024 few.turns, (counted _ 4096 few.salvos, (counted _ 64 few.delays, (counted _ 64 few.lanes, (counted _ (2 ^ 18) few.cells, tt)))))))
+    (all_append IsHeld (numbers s) (counts stated s) h
+    (counted _ MOST_KINDS few.kinds, (counted _ MOST_TURNS few.turns, (counted _ MOST_SALVOS few.salvos, (counted _ MOST_DELAYS few.delays, (counted _ MOST_LANES few.lanes, (counted _ MOST_CELLS few.cells, tt)))))))
 
 -- ---- the numbers of bodies
 

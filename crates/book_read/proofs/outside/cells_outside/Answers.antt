@@ -2,10 +2,11 @@ use Rattle.std.proofs.Common.{List, subst, ◌∙◌, None, flat_map}
 use Rattle.book_read.proofs.outside.cells_outside.Goals as goal
 use Rattle.std.proofs.Common.{get_or}
 use Rattle.book_read.specs.Limited.{cell_numbers, IsFirstOutside}
-use Rattle.book_read.proofs.FirstOutside.{first_more, first_some_at, none_is, all_taken}
+use Rattle.book_read.proofs.FirstOutside.{first_more, first_some_at, none_is}
 use Rattle.std.proofs.Common.{pos}
 use Rattle.life_cells.specs.Cells.{cell}
 use Rattle.life_cells.specs.declared.cell.Cell.{Cell}
+use Rattle.std.proofs.lemmas.List.{take_all}
 
 pub loop-cell-preserved : goal.loop-cell-preserved
 loop-cell-preserved c =
@@ -18,4 +19,4 @@ returns-then-is_some c =
 
 pub returns : goal.returns
 returns c =
-    subst (λ (cs : List Cell). IsFirstOutside (flat_map cell_numbers cs) None) (all_taken c.cells-cell-items.result.now c.loop-cell.cell-index c.loop-cell-test.false ∙ c.cells-cell-items.ensures.order) c.loop-cell.invariant
+    subst (λ (cs : List Cell). IsFirstOutside (flat_map cell_numbers cs) None) (take_all c.loop-cell.cell-index c.cells-cell-items.result.now c.loop-cell-test.false ∙ c.cells-cell-items.ensures.order) c.loop-cell.invariant

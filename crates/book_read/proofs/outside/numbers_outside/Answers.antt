@@ -5,7 +5,8 @@ use Rattle.std.proofs.Common.{FitsSigned, get_or, pos}
 use Rattle.std.proofs.lemmas.Int.{to_z-of_z}
 use Rattle.std.proofs.lemmas.Bool.{false≢true}
 use Rattle.book_read.specs.Limited.{held, IsWithin, IsFirstOutside}
-use Rattle.book_read.proofs.FirstOutside.{first_more, first_found_at, one_each, all_taken}
+use Rattle.book_read.proofs.FirstOutside.{first_more, first_found_at, one_each}
+use Rattle.std.proofs.lemmas.List.{take_all}
 
 pub loop-item-preserved : goal.loop-item-preserved
 loop-item-preserved c =
@@ -25,4 +26,4 @@ returns-then-not-holds c =
 
 pub returns : goal.returns
 returns c =
-    subst (λ (ns : List _). IsFirstOutside ns None) (ap (λ (xs : List ℤ). flat_map (λ y. held c.args.limit y ∷ []) xs) (all_taken c.args.items.now c.loop-item.item-index c.loop-item-test.false) ∙ one_each c.args.limit c.args.items.now) c.loop-item.invariant
+    subst (λ (ns : List _). IsFirstOutside ns None) (ap (λ (xs : List ℤ). flat_map (λ y. held c.args.limit y ∷ []) xs) (take_all c.loop-item.item-index c.args.items.now c.loop-item-test.false) ∙ one_each c.args.limit c.args.items.now) c.loop-item.invariant

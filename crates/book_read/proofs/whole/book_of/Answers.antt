@@ -1,4 +1,4 @@
-use Rattle.std.proofs.Common.{rules, ℕ, ℤ, refl, ap, subst, sym, ◌∙◌, Option}
+use Rattle.std.proofs.Common.{rules, ℕ, ℤ, ap, subst, sym, ◌∙◌, Option}
 use Rattle.book_read.proofs.whole.book_of.Goals as goal
 use mir.Syntax.{w64}
 use Rattle.std.proofs.Common.{FitsSigned}
