@@ -1,11 +1,10 @@
 -- What a test of two numbers says.
-use Rattle.std.proofs.Common.{◌≡◌, Bool, true, false, ℤ, pos, neg_ℤ, ◌+ℤ◌, ◌≤ℤ◌, ◌^◌, w64, to_z, of_z, ◌∙◌, arith, Result, Ok, Err, IfOk, IsTrue, ◌↔◌, MatchBool, sym, subst, refl}
-use lib.Dec.{T}
+use Rattle.std.proofs.Common.{◌≡◌, Bool, true, false, ℤ, pos, neg_ℤ, ◌+ℤ◌, ◌≤ℤ◌, ◌^◌, w64, to_z, of_z, ◌∙◌, arith, Result, Ok, Err, IfOk, IsTrue, ◌↔◌, MatchBool, sym, subst}
 use lib.Signed.{le_z}
 use Rattle.std.specs.Int.{int_min, int_max}
 use Rattle.std.specs.Prelude.{FitsSigned}
 use Rattle.std.proofs.lemmas.Int.{ints, to_z-of_z}
-use Rattle.life_plane.specs.NumberLaws.{le_from_test, true_from_T, test_from_le}
+use Rattle.life_plane.specs.NumberLaws.{le_from_test, test_from_le}
 
 -- what holds where a test succeeds
 pub holds_if_true : (b : Bool) (P Q : Type 0) → b ≡ true → MatchBool b P Q → P

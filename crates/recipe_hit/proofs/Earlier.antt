@@ -1,18 +1,17 @@
 -- A hit is the same from further back.
-use Rattle.std.proofs.Common.{◌≡◌, ℕ, zero, suc, ◌+◌, ◌-◌, ◌<◌, Bool, true, false, ◌||◌, ◌≤◌, ◌⊎◌, inl, inr, ℤ, pos, ◌+ℤ◌, ◌-ℤ◌, ◌*ℤ◌, ◌≤ℤ◌, refl, sym, ap, subst, ◌∙◌, arith}
+use Rattle.std.proofs.Common.{◌≡◌, ℕ, ◌+◌, ◌-◌, ◌<◌, ◌≤◌, inl, inr, ℤ, pos, ◌+ℤ◌, ◌-ℤ◌, ◌*ℤ◌, ◌≤ℤ◌, sym, ap, subst, ◌∙◌, arith}
 use Rattle.std.proofs.lemmas.Int.{ints}
 use Rattle.std.proofs.lemmas.Bool.{cases_lt}
 use Rattle.life_plane.specs.Plane.{Plane, run, union, IsStill}
 use Rattle.life_plane.specs.Apart.{Apart}
 use Rattle.life_plane.specs.Evolve.{run-add, run_union, still_run}
 use Rattle.life_plane.specs.Salvo.{salvo_glider, run_salvo}
-use Rattle.life_plane.specs.Strips.{Each}
 use Rattle.life_scene.specs.HitLaws.{coming_apart, hit_lasts}
 use Rattle.life_cells.specs.declared.bounds.Bounds.{Bounds}
 use Rattle.life_cells.specs.Cells.{alive}
 use Rattle.life_cells.specs.Boxes.{Holds}
 use Rattle.recipe_hit.specs.declared.hit.Hit.{Hit}
-use Rattle.recipe_hit.specs.Strike.{first_quarter, hit_start, ever, ComesToRest, IsHit}
+use Rattle.recipe_hit.specs.Strike.{first_quarter, hit_start, ComesToRest, IsHit}
 use Rattle.recipe_hit.specs.SceneHitLaws.{as_box, held, scene_hit}
 use Rattle.recipe_hit.specs.FurtherBack.{start_before, IsHitFrom}
 

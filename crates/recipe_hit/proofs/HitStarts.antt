@@ -1,5 +1,5 @@
 -- How a hit begins.
-use Rattle.std.proofs.Common.{◌≡◌, ◌^◌, true, false, Bool, ◌||◌, ℤ, pos, neg_ℤ, ◌*ℤ◌, ◌≤ℤ◌, refl, ap, sym, subst, ◌∙◌, arith}
+use Rattle.std.proofs.Common.{◌≡◌, ◌^◌, ℤ, pos, neg_ℤ, ◌*ℤ◌, ◌≤ℤ◌, ap, sym, subst, ◌∙◌, arith}
 use Rattle.std.proofs.lemmas.Int.{ints}
 use Rattle.std.proofs.Math.Bool.{or_self_left}
 use Rattle.life_plane.specs.Plane.{Plane, union, same_plane}

@@ -8,7 +8,6 @@ use Rattle.life_cells.specs.Boxes.{IsInRange, IsLeastBox}
 use Rattle.life_cells.specs.BoxLaws.{range_run, range_wider}
 use Rattle.life_cells.specs.Laws.{same_cells}
 use Rattle.recipe_hit.specs.Strike.{ever}
-use Rattle.recipe_hit.specs.Rest.{NeverRests}
 
 -- none of the generations before this one is still
 abbrev pub MovesBefore : Plane → ℕ → Type 0
