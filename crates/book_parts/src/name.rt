@@ -66,22 +66,3 @@ impl Eq for Name {
 
     ghost laws = { nat_list_eq_equiv };
 }
-
-#[cfg(test)]
-mod tests {
-    use super::*;
-    use std::test::Fail;
-
-    #[test]
-    fn names_are_kept(rt: HostRuntime) -> Result<(), Fail> {
-        for text in ["block", "k_1"] {
-            let name = Name::from_text(rt.alloc(), text)?;
-            assert_eq!(rt; name.text(), text);
-            let copy = name.copy()?;
-            assert_eq!(rt; copy.text(), text);
-            assert!(rt; copy == name);
-            assert!(rt; copy != Name::from_text(rt.alloc(), "other")?);
-        }
-        Ok(())
-    }
-}

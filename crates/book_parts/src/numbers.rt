@@ -66,22 +66,3 @@ impl Eq for Numbers {
 
     ghost laws = { lists_equiv int_eq_equiv };
 }
-
-#[cfg(test)]
-mod tests {
-    use super::*;
-    use std::test::Fail;
-
-    #[test]
-    fn numbers_are_kept(rt: HostRuntime) -> Result<(), Fail> {
-        for items in [[0, 50].as_slice(), [-3, 7, 7].as_slice()] {
-            let numbers = Numbers::from_slice(rt.alloc(), items)?;
-            assert_eq!(rt; numbers.items(), items);
-            let copy = numbers.copy()?;
-            assert_eq!(rt; copy.items(), items);
-            assert!(rt; copy == numbers);
-            assert!(rt; copy != Numbers::from_slice(rt.alloc(), &[0, 51])?);
-        }
-        Ok(())
-    }
-}

@@ -1,10 +1,15 @@
-//! Calls on books: the canonical text, the salvos and their hits, elbow states and closing routes.
+//! Calls on books: the canonical text, the salvos and their hits, elbow states, and routes.
+
+ghost use Rattle.std.specs.Prelude.{◌^◌, ◌≤ℤ◌, pos};
+ghost use Rattle.elbow_graph.specs.Elbows.{IsInSpan};
 
 use crate::cells::show_hit;
+use crate::numbers::numbers_of;
 use crate::show::{show_cells, show_lines};
+use book_parts::{Name, Numbers};
 use book_text::{read_book, write_book};
 use elbow_graph::elbow_states;
-use elbow_route::{Elbow, route_to_close};
+use elbow_route::{Elbow, route_to_close, route_to_lane};
 use life_cells::NoMemory;
 use life_steps::Steps;
 use recipe_book::{CheckedBook, check_book};
@@ -74,17 +79,6 @@ fn show_salvo(
     Ok(())
 }
 
-// The numbers that words spell.
-fn numbers_of(alloc: Global, words: &[String]) -> Result<Vec<i64>, NoMemory> {
-    let mut numbers = Vec::new(alloc);
-    for word in words {
-        if let Ok(number) = word.parse::<i64>() {
-            numbers.push(number)?;
-        }
-    }
-    Ok(numbers)
-}
-
 /// How many elbow states the sound turns of a book reach from a kind within a span, up to a limit.
 pub fn show_states<L: Ledger>(
     alloc: Global,
@@ -100,6 +94,7 @@ pub fn show_states<L: Ledger>(
     let (Ok(kind), Ok(limit)) = (usize::try_from(kind), u64::try_from(limit)) else {
         return Ok(false);
     };
+    let span = i64::from(span);
     if span < 0 || MOST_SPAN < span {
         return Ok(false);
     }
@@ -111,7 +106,8 @@ pub fn show_states<L: Ledger>(
     Ok(true)
 }
 
-/// The least list of sound turns of a book that closes an elbow, by its kind and shift, within a span.
+/// The least list of sound turns of a book that closes an elbow, by its kind and shift, within a span; or that serves a lane, where one
+/// is named.
 pub fn show_route<L: Ledger>(
     alloc: Global,
     text: &[u8],
@@ -120,19 +116,57 @@ pub fn show_route<L: Ledger>(
     steps: &mut Steps<L>,
 ) -> Result<bool, NoMemory> {
     let numbers = numbers_of(alloc, words)?;
-    let [kind, shift, span] = *numbers.as_slice() else {
-        return Ok(false);
+    let (kind, shift, span, lane) = match *numbers.as_slice() {
+        [kind, shift, span] => (kind, shift, span, None),
+        [kind, shift, span, lane] => (kind, shift, span, Some(i64::from(lane))),
+        _ => return Ok(false),
     };
     let Ok(kind) = usize::try_from(kind) else {
         return Ok(false);
     };
+    let (shift, span) = (i64::from(shift), i64::from(span));
     if span < 0 || MOST_SPAN < span || shift < -span || span < shift {
         return Ok(false);
     }
     let Some(book) = checked(alloc, text, steps) else {
         return Ok(false);
     };
-    let route = route_to_close(alloc, book.turns(), Elbow { kind, shift }, span)?;
+    let route = route_of(alloc, &book, Elbow { kind, shift }, span, lane)?;
     write!(report, "{route:?}\n")?;
+    Ok(true)
+}
+
+// The least list that serves a lane, where one is named, or closes the elbow.
+fn route_of(
+    alloc: Global,
+    book: &CheckedBook,
+    from: Elbow,
+    span: i64,
+    lane: Option<i64>,
+) -> Result<Option<Vec<usize>>, NoMemory>
+    requires low { pos 0 ≤ℤ span }
+    requires high { span ≤ℤ pos (2 ^ 27) }
+    requires from { IsInSpan span from }
+{
+    match lane {
+        Some(lane) => route_to_lane(alloc, book.turns(), from, lane, span),
+        None => route_to_close(alloc, book.turns(), from, span),
+    }
+}
+
+/// Copies of the names and delays of a book's turns, and whether they are equal to what they are copies of, and to nothing else.
+pub fn show_copies(alloc: Global, text: &[u8], report: &mut String) -> Result<bool, NoMemory> {
+    let Ok(book) = read_book(alloc, text) else {
+        return Ok(false);
+    };
+    let other = Name::from_text(alloc, "other")?;
+    let others = Numbers::from_slice(alloc, &[0, 51])?;
+    for turn in &book.turns {
+        let (name, delays) = (turn.name.copy()?, turn.delays.copy()?);
+        let (text, items) = (name.text(), delays.items());
+        let same = name == turn.name && delays == turn.delays;
+        let another = name == other || delays == others;
+        write!(report, "{text} {items:?} same {same} another {another}\n")?;
+    }
     Ok(true)
 }

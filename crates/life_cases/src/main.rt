@@ -8,9 +8,12 @@ mod books;
 mod calls;
 mod cases;
 mod cells;
+mod numbers;
 mod runs;
+mod sets;
 mod show;
 mod texts;
+mod tracks;
 
 use cases::Cases;
 use life_cells::NoMemory;

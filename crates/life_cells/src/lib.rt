@@ -16,8 +16,6 @@ mod moved;
 mod near;
 pub mod step;
 mod survivors;
-#[cfg(test)]
-mod tests;
 
 pub use bounds::Bounds;
 pub use cell::Cell;

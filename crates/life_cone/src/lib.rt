@@ -5,8 +5,6 @@
 
 pub mod boxes;
 pub mod diagonals;
-#[cfg(test)]
-mod tests;
 
 pub use boxes::box_apart;
 pub use diagonals::{split_apart, strip_apart};

@@ -71,21 +71,3 @@ pub fn glider_cells(track: Track, j: i64) -> [Cell; 5]
 {
     cells_on(track, j)
 }
-
-#[cfg(test)]
-mod tests {
-    use super::*;
-
-    #[test]
-    fn gliders_are_where_they_should_be(rt: HostRuntime) {
-        let now = glider_cells(Track::Stream, 0);
-        let cells_now = [(1, 0), (2, 1), (0, 2), (1, 2), (2, 2)];
-        assert_eq!(rt; now.map(|cell| (cell.x, cell.y)), cells_now);
-        let before = glider_cells(Track::Stream, -40);
-        let cells_before = [(-9, -10), (-8, -9), (-10, -8), (-9, -8), (-8, -8)];
-        assert_eq!(rt; before.map(|cell| (cell.x, cell.y)), cells_before);
-        let thrown = glider_cells(Track::Salvo { lane: 1 }, 20);
-        let cells_thrown = [(7, -5), (8, -6), (6, -7), (7, -7), (8, -7)];
-        assert_eq!(rt; thrown.map(|cell| (cell.x, cell.y)), cells_thrown);
-    }
-}

@@ -6,8 +6,6 @@ mod beyond;
 pub mod finding;
 pub mod glider;
 pub mod laws;
-#[cfg(test)]
-mod tests;
 pub mod track;
 
 pub use finding::find_salvo_glider;

@@ -10,8 +10,6 @@ mod rank;
 mod search;
 pub mod shape;
 pub mod shaping;
-#[cfg(test)]
-mod tests;
 
 pub use island::Island;
 pub use parting::{is_one_island, islands};
