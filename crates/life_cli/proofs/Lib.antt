@@ -1,11 +1,12 @@
 -- Lemmas of the top call.
 mod WordLists
-mod Held
+mod Asking
+mod StageLaws
 mod Notes
 mod Titles
-mod Reports
 mod Generations
+mod FirstLive
 mod Written
-mod Together
 mod Gaining
-mod Completeness
+mod Ending
+mod Exactness

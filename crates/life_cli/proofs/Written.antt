@@ -1,29 +1,53 @@
--- From what a checked book builds to the answer for its text.
-use Rattle.std.specs.Prelude.{Vec}
-use Rattle.std.specs.declared.alloc.Global.{Global}
-use Rattle.std.specs.Prelude.{◌≡◌, ℕ, List, IfOk, IfErr, Result, Ok, Err}
+-- From a checked book and what it builds to the answer for what was read.
+use Rattle.std.specs.Prelude.{◌≡◌, ℕ, ◌≤◌, ℤ, pos, List}
 use Rattle.std.specs.declared.option.Option.TheVariants.{Some}
-use Rattle.std.proofs.Common.{sym, ap, subst, ◌∙◌}
-use Rattle.life_plane.specs.Plane.{Plane, run, nothing}
-use Rattle.life_cells.specs.Cells.{alive}
+use Rattle.std.proofs.Common.{sym, ap, subst, ◌∙◌, arith}
+use Rattle.life_plane.specs.Plane.{Plane, IsStill, run, nothing}
+use Rattle.life_cells.specs.Cells.{Cells, alive}
 use Rattle.life_rle.specs.Text.{Means}
 use Rattle.life_rle.specs.Written.{IsRleText}
 use Rattle.book_parts.specs.declared.settings.Settings.{Settings}
 use Rattle.book_parts.specs.declared.kind.RawKind.{RawKind}
 use Rattle.book_parts.specs.declared.turn.RawTurn.{RawTurn}
 use Rattle.book_text.specs.Book.{Said}
-use Rattle.recipe_turn.specs.Checked.{raws}
-use Rattle.recipe_book.specs.Checked.{CheckedEntries}
+use Rattle.recipe_turn.specs.Checked.{AreValid, raws}
+use Rattle.elbow_graph.specs.declared.elbow.Elbow.{Elbow}
+use Rattle.elbow_graph.specs.declared.goal.Goal.{Goal}
+use Rattle.elbow_graph.specs.declared.goal.Goal.TheVariants.{Closed}
+use Rattle.elbow_graph.specs.Elbows.{elbow}
+use Rattle.elbow_graph.specs.Exits.{exits_of}
+use Rattle.elbow_graph.specs.Goals.{IsLeastRoute}
+use Rattle.elbow_graph.specs.States.{HasStates}
+use Rattle.recipe_book.specs.Checked.{CheckedEntries, IsCheckedBook, most_states}
 use Rattle.recipe_book.specs.Entries.{AreTheSound}
+use Rattle.stream_time.specs.Schedule.{Timed}
 use Rattle.stream_time.specs.Pattern.{pattern, last_end}
+use Rattle.stream_time.specs.Numbered.{AreNumbered, count_of}
+use Rattle.stream_time.specs.NumberedLaws.{picked_once}
 use Rattle.stream_time.specs.Built as plan
 use Rattle.stream_time.specs.declared.building.Built.{Built}
 use Rattle.stream_time.specs.declared.building.PlanError.{PlanError}
-use Rattle.life_cli.specs.Book.{ReadsAsBook, IsCheckedOf}
-use Rattle.life_cli.specs.Compiled.{IsCompiled, pattern_of, generations, back, AnswersBook}
-use Rattle.life_cli.specs.Causes.{CheckIsRefused, PlanningIsRefused, BuildingIsRefused}
-use Rattle.life_cli.specs.declared.status.Status.{Status}
-use Rattle.life_cli.specs.declared.status.Status.TheVariants.{BadBook, NoPlan, StreamLong, Memory}
+use Rattle.life_cli.specs.Book.{IsCheckedOf}
+use Rattle.life_cli.specs.Compiled.{IsCompiled, CanClose, pattern_of, generations, back}
+
+-- ---- the book that was checked is the one that was read
+
+pub checked_of : (book : Said) (found : CheckedEntries) → IsCheckedBook found → found.settings ≡ book.settings → found.kinds ≡ book.kinds → found.start ≡ book.start → found.hand ≡ book.hand →
+    AreTheSound book.settings book.kinds book.turns (raws found.turns) → IsCheckedOf book found
+checked_of book found is settings kinds start hand turns = record {
+  settings = settings;
+  kinds = kinds;
+  start = start;
+  passes = record {
+    valid = subst (λ (s : Settings). AreValid s book.kinds) settings (subst (λ (ks : List RawKind). AreValid found.settings ks) kinds is.valid);
+    still = subst (λ (c : Cells). IsStill (alive c)) hand is.still;
+    are = turns;
+    count = is.states.0;
+    states =
+        subst (λ (s : Settings). HasStates (raws found.turns) book.start s.span most_states is.states.0) settings
+        (subst (λ (n : ℕ). HasStates (raws found.turns) n found.settings.span most_states is.states.0) start is.states.1);
+  };
+}
 
 -- ---- the plan over its sound turns
 
@@ -33,11 +57,36 @@ plan_refused said book e is h =
     subst (λ (s : Settings). plan.BuildingIsRefused (raws book.turns) s.span said.start e) is.settings
     (subst (λ (n : ℕ). plan.BuildingIsRefused (raws book.turns) book.settings.span n e) is.start h)
 
+stream_of : (said : Said) (book : CheckedEntries) (turns : List Timed) → IsCheckedOf said book → plan.IsLeastStream book.settings (raws book.turns) book.start turns →
+    plan.IsLeastStream said.settings (raws book.turns) said.start turns
+stream_of said book turns is h =
+    subst (λ (s : Settings). plan.IsLeastStream s (raws book.turns) said.start turns) is.settings
+    (subst (λ (n : ℕ). plan.IsLeastStream book.settings (raws book.turns) n turns) is.start h)
+
+-- there is one least list from an elbow
+abbrev pub OneLeast : Type 0
+OneLeast = (turns : List RawTurn) (span : ℤ) (goal : Goal) (from : Elbow) (a b : List ℕ) → IsLeastRoute (exits_of turns) span goal from a → IsLeastRoute (exits_of turns) span goal from b → a ≡ b
+
+can_close : OneLeast → (said : Said) (sound : List RawTurn) (turns : List Timed) → plan.IsLeastStream said.settings sound said.start turns → CanClose said sound
+can_close one said sound turns s = record {
+  list = s.list;
+  closes = s.least.ends;
+  few = λ least picked is are.
+      let same : least ≡ s.list = one sound said.settings.span Closed (elbow said.start (pos 0)) least s.list is s.least in
+      let other : picked ≡ s.picked = picked_once sound s.list picked s.picked (subst (λ (l : List ℕ). AreNumbered sound l picked) same are) s.are in
+      let n : count_of picked ≡ count_of s.picked = ap count_of other in
+      let few = s.few in
+      omega arith;
+}
+
+pub built_closes : OneLeast → (said : Said) (book : CheckedEntries) (built : Built) → IsCheckedOf said book → plan.IsBuilt book built → CanClose said (raws book.turns)
+built_closes one said book built is b = can_close one said (raws book.turns) b.turns (stream_of said book b.turns is b.stream)
+
 -- ---- the text
 
-pub compiled : (said : Said) (book : CheckedEntries) (built : Built) (book_text target_text bytes : List ℕ) → IsCheckedOf said book → ReadsAsBook book_text said → Means target_text nothing → plan.IsBuilt book built →
-    IsRleText (alive built.pattern) (Some (generations built.n)) bytes → Means bytes (alive built.pattern) → IsCompiled book_text target_text bytes
-compiled said book built book_text target_text bytes is reads means b text back_text =
+pub compiled : (said : Said) (book : CheckedEntries) (built : Built) (bytes : List ℕ) → IsCheckedOf said book → plan.IsBuilt book built →
+    IsRleText (alive built.pattern) (Some (generations built.n)) bytes → Means bytes (alive built.pattern) → IsCompiled said (raws book.turns) nothing bytes
+compiled said book built bytes is b text back_text =
     let same : alive built.pattern ≡ pattern_of said b.turns =
     b.pattern_is
     ∙ ap (λ (s : Settings). pattern s book.kinds book.start b.turns back) is.settings
@@ -47,41 +96,9 @@ compiled said book built book_text target_text bytes is reads means b text back_
     let Note : ℕ → Type 0 = λ n. IsRleText (alive built.pattern) (Some (generations n)) bytes in
     let Meant : Plane → Type 0 = λ s. Means bytes s in
     record {
-      said = said;
-      book = reads;
-      target = nothing;
-      target_is = means;
-      sound = raws book.turns;
-      sound_are = is.turns;
       turns = b.turns;
-      stream =
-          subst (λ (s : Settings). plan.IsLeastStream s (raws book.turns) said.start b.turns) is.settings
-          (subst (λ (n : ℕ). plan.IsLeastStream book.settings (raws book.turns) n b.turns) is.start b.stream);
+      stream = stream_of said book b.turns is b.stream;
       written = subst Text same (subst Note b.n_is text);
       means = subst Meant same back_text;
       exact = ap (run (last_end b.turns)) (sym same) ∙ ap (λ (n : ℕ). run n (alive built.pattern)) (sym b.n_is) ∙ b.vanishes;
     }
-
--- ---- the two steps together
-
-pub check_refused : (said : Said) (status : Status) → CheckIsRefused said status → BuildingIsRefused said status
-check_refused said (BadBook e) h = h
-check_refused said Memory h = tt
-check_refused said other h = absurd h
-
-pub planning_refused : (said : Said) (sound : List RawTurn) (status : Status) → AreTheSound said.settings said.kinds said.turns sound → PlanningIsRefused sound said status → BuildingIsRefused said status
-planning_refused said sound (NoPlan e) are h = (sound, (are, h))
-planning_refused said sound (StreamLong count) are h = (sound, (are, h))
-planning_refused said sound Memory are h = tt
-planning_refused said sound other are h = absurd h
-
--- what answers for a checked book answers for the book that was read
-pub answers_read : {E : Type 0} (book : Said) (found : CheckedEntries) (r : Result (Vec ℕ Global) E) → IsCheckedOf book found →
-    IfOk r (λ bytes. (said : Said) → IsCheckedOf said found → AnswersBook said bytes.items) → IfOk r (λ bytes. AnswersBook book bytes.items)
-answers_read book found (Ok bytes) is h = h book is
-answers_read book found (Err e) is h = tt
-
-pub planning_read : {T : Type 0} (book : Said) (found : CheckedEntries) (r : Result T Status) → IsCheckedOf book found →
-    IfErr r (λ status. (said : Said) → IsCheckedOf said found → PlanningIsRefused (raws found.turns) said status) → IfErr r (λ status. BuildingIsRefused book status)
-planning_read book found (Ok bytes) is h = tt
-planning_read book found (Err status) is h = planning_refused book (raws found.turns) status is.turns (h book is)

@@ -1,20 +1,56 @@
--- The answer to `compile`: the pattern and the number of generations after which it is exactly the target.
-use Rattle.std.specs.Prelude.{◌≡◌, ℕ, pos, List, ◌++◌, codes, Some}
+-- `compile BOOK TARGET`: a pattern, and the number of generations after which it is exactly the target.
+use Rattle.std.specs.Prelude.{◌≡◌, ◌≢◌, ℕ, ◌≤◌, pos, List, ◌++◌, codes, Some}
 use Rattle.std.specs.Fmt.{decimal}
 use Rattle.life_plane.specs.Plane.{Plane, run, nothing}
 use Rattle.life_cells.specs.Cells.{cell}
 use Rattle.life_cells.specs.declared.cell.Cell.{Cell}
+use Rattle.life_cells.specs.Firsts.{IsFirstLive}
 use Rattle.life_rle.specs.Text.{Means}
 use Rattle.life_rle.specs.Written.{IsRleText}
+use Rattle.life_target.specs.Targets.{IsTarget, TargetIsRefused}
+use Rattle.life_target.specs.declared.refusal.TargetError as target
 use Rattle.book_parts.specs.declared.turn.RawTurn.{RawTurn}
 use Rattle.book_text.specs.Book.{Said}
-use Rattle.recipe_book.specs.Entries.{AreTheSound}
 use Rattle.stream_time.specs.Schedule.{Timed}
 use Rattle.stream_time.specs.Pattern.{pattern, last_end}
-use Rattle.stream_time.specs.Built.{IsLeastStream}
-use Rattle.life_io.specs.Texts.{HeldText}
-use Rattle.life_cli.specs.Book.{ReadsAsBook}
-use Rattle.life_cli.specs.Causes.{IsHeld}
+use Rattle.stream_time.specs.Numbered.{AreNumbered, count_of}
+use Rattle.stream_time.specs.Built.{most_gliders, ClosesStart, IsClosing, IsLeastStream, BuildingIsRefused, IsLong}
+use Rattle.stream_time.specs.declared.building.PlanError.TheVariants as stop
+use Rattle.life_cli.specs.Book.{book_tests}
+use Rattle.life_cli.specs.Inputs.{Told, book_input, pattern_input}
+use Rattle.life_cli.specs.Stages.{Stages, Test}
+use Rattle.life_cli.specs.Stages.Stages.{Answer}
+use Rattle.life_cli.specs.declared.status.Which.TheVariants.{Target}
+use Rattle.life_cli.specs.declared.status.Status.{Status}
+use Rattle.life_cli.specs.declared.status.Status.TheVariants.{BadTarget, NotYet, NoPlan, StreamLong}
+
+-- ---- the target
+
+-- the tests of a target refuse so
+abbrev pub TargetRefuses : Plane → Status → Type 0
+TargetRefuses s (BadTarget e) = (e ≢ target.TheVariants.Memory) × TargetIsRefused s e
+TargetRefuses s other = ⊥
+
+-- it has a live cell, the first of them this, and such targets are not compiled yet
+abbrev pub CellRefuses : Plane → Status → Type 0
+CellRefuses s (NotYet cell) = IsFirstLive s cell
+CellRefuses s other = ⊥
+
+-- ---- the plan
+
+-- some list of the sound turns closes the start elbow, and the least such list has few gliders
+pub record CanClose (said : Said) (sound : List RawTurn) : Type 0 where
+  pub list : List ℕ
+  pub closes : ClosesStart sound said.settings.span said.start list
+  pub few : (least : List ℕ) (picked : List RawTurn) → IsClosing sound said.settings.span said.start least → AreNumbered sound least picked → count_of picked ≤ most_gliders
+
+-- planning refuses so
+abbrev pub PlanRefuses : Said → List RawTurn → Status → Type 0
+PlanRefuses said sound (NoPlan (stop.NoClosing kind shift)) = BuildingIsRefused sound said.settings.span said.start (stop.NoClosing kind shift)
+PlanRefuses said sound (StreamLong count) = IsLong sound said.settings.span said.start count
+PlanRefuses said sound other = ⊥
+
+-- ---- the answer
 
 -- the shift back to the target's place: none for a target with no cell
 abbrev pub back : Cell
@@ -29,14 +65,8 @@ abbrev pub generations : ℕ → List ℕ
 generations n = codes "generations " ++ decimal n
 
 -- The bytes are the text of the pattern with the note of its n, and the n-th generation of the cells that these bytes mean is the target.
-pub record IsCompiled (book_text target_text bytes : List ℕ) : Type 0 where
-  pub said : Said
-  pub book : ReadsAsBook book_text said
-  pub target : Plane
-  pub target_is : Means target_text target
+pub record IsCompiled (said : Said) (sound : List RawTurn) (target : Plane) (bytes : List ℕ) : Type 0 where
   -- the stream: of the book's sound turns the least list that closes the start elbow, each turn as soon as it may start
-  pub sound : List RawTurn
-  pub sound_are : AreTheSound said.settings said.kinds said.turns sound
   pub turns : List Timed
   pub stream : IsLeastStream said.settings sound said.start turns
   -- what is written
@@ -45,14 +75,18 @@ pub record IsCompiled (book_text target_text bytes : List ℕ) : Type 0 where
   -- what it comes to
   pub exact : run (last_end turns) (pattern_of said turns) ≡ target
 
--- The answer for the texts of these names.
-pub record IsAnswer (texts : List HeldText) (book_name target_name bytes : List ℕ) : Type 0 where
-  pub book_text : List ℕ
-  pub target_text : List ℕ
-  pub book_held : IsHeld texts book_name book_text
-  pub target_held : IsHeld texts target_name target_text
-  pub compiled : IsCompiled book_text target_text bytes
+-- ---- the stages
 
--- The bytes answer for each text that says this book and each text that means a target with no cell.
-abbrev pub AnswersBook : Said → List ℕ → Type 0
-AnswersBook said bytes = (book_text target_text : List ℕ) → ReadsAsBook book_text said → Means target_text nothing → IsCompiled book_text target_text bytes
+-- from the sound turns on
+abbrev pub planning : Said → List RawTurn → Plane → Stages
+planning said sound target = Test (CanClose said sound) (PlanRefuses said sound) 0 (Answer 0 (IsCompiled said sound target))
+
+-- from the target on
+abbrev pub building : Said → Plane → Stages
+building said target =
+    Test (IsTarget target) (TargetRefuses target) 1 (
+    Test (target ≡ nothing) (CellRefuses target) 0 (
+    book_tests said (λ sound. planning said sound target)))
+
+abbrev pub compile : Told → List ℕ → List ℕ → Stages
+compile told book_name target_name = book_input told book_name (λ said. pattern_input told target_name Target (λ target. building said target))

@@ -1,12 +1,15 @@
 -- What the program answers.
 pub mod Words
 pub mod Requests
+pub mod Stages
+pub mod Exact
 pub mod Book
-pub mod Causes
+pub mod Inputs
 pub mod Compiled
 pub mod Replayed
 pub mod Verdicts
 pub mod Statuses
+pub mod Putting
 pub mod Run
 pub mod ErrorLines
 pub mod Complete

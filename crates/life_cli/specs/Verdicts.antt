@@ -1,8 +1,7 @@
--- The answer to `check`: a line for each entry of a book with its verdict, and how many are accepted.
+-- `check BOOK`: a line for each entry of a book with its verdict, and how many are accepted.
 use Rattle.std.specs.Prelude.{◌≡◌, ℕ, Bool, true, false, List, [], ◌∷◌, ◌++◌, length, map, filter, codes}
 use Rattle.std.specs.Fmt.{decimal, signed_decimal}
 use Rattle.life_cells.specs.Cells.{alive}
-use Rattle.life_io.specs.Texts.{HeldText}
 use Rattle.book_parts.specs.declared.turn.RawTurn.{RawTurn}
 use Rattle.book_parts.specs.declared.salvo.RawSalvo.{RawSalvo}
 use Rattle.book_text.specs.Book.{Said}
@@ -11,8 +10,10 @@ use Rattle.recipe_hit.specs.declared.refusal.SalvoRefusal as salvo
 use Rattle.recipe_book.specs.Verdicts.{AreVerdicts}
 use Rattle.recipe_book.specs.declared.verdict.Verdict.{Verdict}
 use Rattle.recipe_book.specs.declared.verdict.Verdict.TheVariants.{Accepted, Turn, Salvo}
-use Rattle.life_cli.specs.Book.{ReadsAsBook}
-use Rattle.life_cli.specs.Causes.{IsHeld}
+use Rattle.life_cli.specs.Book.{book_tests}
+use Rattle.life_cli.specs.Inputs.{Told, book_input}
+use Rattle.life_cli.specs.Stages.{Stages}
+use Rattle.life_cli.specs.Stages.Stages.{Answer}
 use Rattle.life_cli.specs.ErrorLines.{cell_text}
 
 -- why a turn isn't accepted; the last is no verdict
@@ -81,14 +82,11 @@ pub record Judges (said : Said) (bytes : List ℕ) : Type 0 where
   pub verdicts_are : AreVerdicts said.settings said.kinds (alive said.hand) said.turns said.salvos verdicts
   pub written : bytes ≡ verdicts_text said verdicts
 
--- the same for the book that a text says
-pub record IsJudged (book_text bytes : List ℕ) : Type 0 where
-  pub said : Said
-  pub book : ReadsAsBook book_text said
-  pub judges : Judges said bytes
+-- ---- the stages
 
--- the answer for the text of this name
-pub record IsReport (texts : List HeldText) (name bytes : List ℕ) : Type 0 where
-  pub text : List ℕ
-  pub held : IsHeld texts name text
-  pub judged : IsJudged text bytes
+-- from the book on
+abbrev pub judging : Said → Stages
+judging said = book_tests said (λ sound. Answer 0 (Judges said))
+
+abbrev pub check : Told → List ℕ → Stages
+check told name = book_input told name judging

@@ -1,8 +1,10 @@
 -- The words of the command line.
-use Rattle.std.specs.Prelude.{◌≡◌, ◌≢◌, ◌⊎◌, ℕ, ◌+◌, ◌<◌, ◌≤◌, ◌^◌, ◌==◌, Bool, false, List, [], ◌∷◌, length, codes, map}
+use Rattle.std.specs.Prelude.{◌≡◌, ◌≢◌, ℕ, ◌+◌, ◌<◌, ◌≤◌, ◌^◌, ◌==◌, Bool, false, List, [], ◌∷◌, length, codes, map}
 use Rattle.std.specs.Prelude.{String}
 use Rattle.std.specs.declared.alloc.Global.{Global}
-use Rattle.std.specs.List.{position}
+use Rattle.std.specs.List.{position, find}
+use Rattle.std.specs.Option.{option_map}
+use Rattle.std.specs.Str.{bytes_eq}
 use Rattle.std.specs.String.{string_bytes}
 use Rattle.std.specs.declared.option.Option.{Option}
 use Rattle.std.specs.declared.option.Option.TheVariants.{Some, None}
@@ -31,16 +33,6 @@ first_dash words = position (λ (word : String Global). has_dash (string_bytes w
 abbrev pub texts_of : Words → List (List ℕ)
 texts_of words = map (λ (word : String Global). string_bytes word) words
 
--- `check BOOK`
-pub record IsCheck (words : Words) (book : List ℕ) : Type 0 where
-  pub whole : texts_of words ≡ codes "check" ∷ (book ∷ [])
-  pub plain : first_dash words ≡ None
-
--- `compile BOOK TARGET`
-pub record IsCompile (words : Words) (book target : List ℕ) : Type 0 where
-  pub whole : texts_of words ≡ codes "compile" ∷ (book ∷ (target ∷ []))
-  pub plain : first_dash words ≡ None
-
 -- from 1 to 10 digits that spell a number under 2^32
 pub record IsGenerations (text : List ℕ) (n : ℕ) : Type 0 where
   pub digits : IsNumeral 10 text
@@ -48,35 +40,50 @@ pub record IsGenerations (text : List ℕ) (n : ℕ) : Type 0 where
   pub is : digits_value 10 text ≡ n
   pub small : n < 2 ^ 32
 
--- `replay PATTERN N`, the number yet unread
-pub record NamesReplay (words : Words) (pattern number : List ℕ) : Type 0 where
-  pub whole : texts_of words ≡ codes "replay" ∷ (pattern ∷ (number ∷ []))
-  pub plain : first_dash words ≡ None
+-- a command, and how many words it takes behind its own
+pub record Usage : Type 0 where
+  pub command : List ℕ
+  pub takes : ℕ
 
--- `replay PATTERN N`
-pub record IsReplay (words : Words) (pattern : List ℕ) (n : ℕ) : Type 0 where
-  pub number : List ℕ
-  pub names : NamesReplay words pattern number
-  pub is : IsGenerations number n
+abbrev pub usages : List Usage
+usages = record { command = codes "check"; takes = 1 } ∷ (record { command = codes "compile"; takes = 2 } ∷ (record { command = codes "replay"; takes = 2 } ∷ []))
 
--- no word begins with `-`, and the first is such, with so many behind it
-pub record BeginsWith (words : Words) (first : List ℕ) (rest : List (List ℕ)) : Type 0 where
+-- how many words the command of this word takes behind it; none where it is no command
+abbrev pub takes : List ℕ → Option ℕ
+takes word = option_map (λ (u : Usage). u.takes) (find (λ (u : Usage). bytes_eq u.command word) usages)
+
+-- no word begins with `-`, and the first is such, with these behind it
+pub record BeginWith (words : Words) (first : List ℕ) (rest : List (List ℕ)) : Type 0 where
   pub whole : texts_of words ≡ first ∷ rest
   pub plain : first_dash words ≡ None
 
--- a command that takes so many words behind it
-abbrev pub Takes : List ℕ → ℕ → Type 0
-Takes first many = ((first ≡ codes "check") × (many ≡ 1)) ⊎ (((first ≡ codes "compile") × (many ≡ 2)) ⊎ ((first ≡ codes "replay") × (many ≡ 2)))
+-- the first word is no command
+pub record AreUnknown (words : Words) : Type 0 where
+  pub first : List ℕ
+  pub rest : List (List ℕ)
+  pub begin : BeginWith words first rest
+  pub unknown : takes first ≡ None
 
--- the word is a command
-abbrev pub IsCommand : List ℕ → Type 0
-IsCommand first = (many : ℕ) × Takes first many
+-- the command takes another number of words
+pub record AreMiscounted (words : Words) : Type 0 where
+  pub first : List ℕ
+  pub rest : List (List ℕ)
+  pub begin : BeginWith words first rest
+  pub many : ℕ
+  pub known : takes first ≡ Some many
+  pub other : length rest ≢ many
+
+-- `replay PATTERN N`, and N is no number of generations
+pub record AreMisnumbered (words : Words) : Type 0 where
+  pub pattern : List ℕ
+  pub number : List ℕ
+  pub begin : BeginWith words (codes "replay") (pattern ∷ (number ∷ []))
+  pub none : (n : ℕ) → IsGenerations number n → ⊥
 
 -- the words are refused so; places count from 1
 abbrev pub AreRefused : Words → WordsError → Type 0
 AreRefused words NoCommand = words ≡ []
 AreRefused words (Dash place) = (before : ℕ) × ((first_dash words ≡ Some before) × (place ≡ before + 1))
-AreRefused words UnknownCommand = (first : List ℕ) × ((rest : List (List ℕ)) × (BeginsWith words first rest × (IsCommand first → ⊥)))
-AreRefused words WrongCount = (first : List ℕ) × ((rest : List (List ℕ)) × (BeginsWith words first rest × (IsCommand first × (Takes first (length rest) → ⊥))))
-AreRefused words (BadNumber place) =
-    (place ≡ 3) × ((pattern : List ℕ) × ((number : List ℕ) × (NamesReplay words pattern number × ((n : ℕ) → IsGenerations number n → ⊥))))
+AreRefused words UnknownCommand = AreUnknown words
+AreRefused words WrongCount = AreMiscounted words
+AreRefused words (BadNumber place) = (place ≡ 3) × AreMisnumbered words

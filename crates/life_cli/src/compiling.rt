@@ -1,29 +1,31 @@
 //! The command `compile`.
 
-ghost use Rattle.std.specs.Prelude.{◌≡◌, ◌≢◌, ◌≤◌, ◌^◌, IfOk, IfErr, IfSome};
+ghost use Rattle.std.specs.Prelude.{◌≡◌, ◌≢◌, ℕ, ◌+◌, ◌≤◌, ◌^◌, IfOk, IfErr};
 ghost use Rattle.life_plane.specs.Plane.{nothing};
 ghost use Rattle.life_cells.specs.Cells.{alive};
 ghost use Rattle.life_cells.specs.Boxes.{IsInRange};
 ghost use Rattle.life_target.specs.Targets.{IsTarget};
-ghost use Rattle.life_io.specs.Counts.{IsLaterCount};
+ghost use Rattle.life_io.specs.Counts.{IsLaterCount, Rose};
 ghost use Rattle.life_io.specs.Texts.{Holds};
 ghost use Rattle.book_text.specs.Book.{Said};
 ghost use Rattle.book_parts.specs.Proper.{IsProperBook};
 ghost use Rattle.recipe_turn.specs.Checked.{raws};
 ghost use Rattle.stream_time.specs.Built.{IsBuilt};
 ghost use Rattle.life_cli.specs.Book.{IsCheckedOf};
-ghost use Rattle.life_cli.specs.Compiled.{IsAnswer, AnswersBook};
-ghost use Rattle.life_cli.specs.Causes.{HoldsPattern, TargetIsRefused, TargetReadingIsRefused, CheckIsRefused, PlanningIsRefused, BuildingIsRefused, CompilingIsRefused};
+ghost use Rattle.life_cli.specs.Stages.{HasCause, EndWith};
+ghost use Rattle.life_cli.specs.Compiled.{TargetRefuses, CellRefuses, PlanRefuses, planning, building, compile};
 
+use crate::books::test_book;
 use crate::inputs::{fetch_book, fetch_pattern};
 use crate::status::{Status, Which};
 use crate::writing::text_of_built;
 use book_parts::RawBook;
-use life_cells::{CellSet, NoMemory};
+use elbow_route::laws::least_lists_are_one;
+use life_cells::CellSet;
 use life_io::Depot;
 use life_steps::Steps;
 use life_target::{Target, TargetError};
-use recipe_book::{BookRefusal, CheckedBook, check_book};
+use recipe_book::CheckedBook;
 use std::alloc::Global;
 use std::sync::ledger::Ledger;
 use stream_time::{Built, PlanError, compile as build};
@@ -36,9 +38,10 @@ fn target_of<L: Ledger>(
 ) -> Result<Target, Status>
     requires { IsInRange (2 ^ 40) (alive cells) }
     ensures same { IfOk result (λ target. target ≡ cells) }
-    ensures target { IfOk result (λ target. IsTarget (alive cells)) }
-    ensures err { IfErr result (λ status. TargetIsRefused (alive cells) status) }
-    ensures steps { steps.old ≤ steps.new }
+    ensures target { IfOk result (λ target. IsTarget (alive target)) }
+    ensures err { IfErr result (λ status. HasCause ⊥ (TargetRefuses (alive cells)) status) }
+    ensures least { steps.old ≤ steps.new }
+    ensures most { steps.new ≤ steps.old + 1 }
 {
     match Target::new(alloc, cells, steps) {
         Ok(target) => Ok(target),
@@ -47,68 +50,21 @@ fn target_of<L: Ledger>(
     }
 }
 
-// Refuses what is no target, and a target with a live cell.
-fn check_target<L: Ledger>(
-    alloc: Global,
-    cells: CellSet,
-    steps: &mut Steps<L>,
-) -> Result<(), Status>
-    requires { IsInRange (2 ^ 40) (alive cells) }
-    ensures empty { IfOk result (λ _. alive cells ≡ nothing) }
-    ensures err { IfErr result (λ status. TargetIsRefused (alive cells) status) }
-    ensures steps { steps.old ≤ steps.new }
+// Refuses a target with a live cell.
+fn require_empty(alloc: Global, target: &Target) -> Result<(), Status>
+    ensures ok { IfOk result (λ _. alive target.now ≡ nothing) }
+    ensures err { IfErr result (λ status. HasCause ⊥ (CellRefuses (alive target.now)) status) }
 {
-    let target = target_of(alloc, cells, steps)?;
     match target.cells().first_difference(&CellSet::empty(alloc)) {
         None => Ok(()),
         Some(cell) => Err(Status::NotYet { cell }),
     }
 }
 
-// Fetches the target, and refuses what is none, and one with a live cell.
-fn fetch_target<D: Depot, L: Ledger>(
-    alloc: Global,
-    depot: &mut D,
-    name: &str,
-    steps: &mut Steps<L>,
-) -> Result<(), Status>
-    ensures ok { IfOk result (λ _. IfSome (D.texts depot.old) (λ texts. HoldsPattern texts name.now nothing)) }
-    ensures err { IfErr result (λ status. TargetReadingIsRefused (D.texts depot.old) name.now (D.faults depot.old) (D.faults depot.new) status) }
-    ensures texts_stay { D.texts depot.new ≡ D.texts depot.old }
-    ensures count { IsLaterCount (D.faults depot.old) (D.faults depot.new) }
-    ensures no_fault { result ≢ Err Status.ReadFault → D.faults depot.new ≡ D.faults depot.old }
-    ensures quiet_stays { D.quiet depot.old → D.quiet depot.new }
-    ensures quiet_serves { D.quiet depot.old → Holds (D.texts depot.old) name.now → result ≢ Err Status.ReadFault }
-    ensures steps { steps.old ≤ steps.new }
-{
-    match fetch_pattern(alloc, depot, name, Which::Target) {
-        Ok(target) => check_target(alloc, target.cells, steps),
-        Err(status) => Err(status),
-    }
-}
-
-// The book, once it is checked.
-fn checked<L: Ledger>(
-    alloc: Global,
-    book: RawBook,
-    steps: &mut Steps<L>,
-) -> Result<CheckedBook, Status>
-    requires { IsProperBook book }
-    ensures ok { IfOk result (λ found. IsCheckedOf book found) }
-    ensures err { IfErr result (λ status. CheckIsRefused book status) }
-    ensures steps { steps.old ≤ steps.new }
-{
-    match check_book(alloc, book, steps) {
-        Ok((found, _)) => Ok(found),
-        Err(BookRefusal::Memory) => Err(Status::Memory),
-        Err(refusal) => Err(Status::BadBook(refusal)),
-    }
-}
-
 // What a checked book builds.
-fn planned(alloc: Global, book: &CheckedBook) -> Result<Built, Status>
+fn plan(alloc: Global, book: &CheckedBook) -> Result<Built, Status>
     ensures ok { IfOk result (λ built. IsBuilt book.now built) }
-    ensures err { IfErr result (λ status. (said : Said) → IsCheckedOf said book.now → PlanningIsRefused (raws book.now.turns) said status) }
+    ensures err { (said : Said) → IsCheckedOf said book.now → IfErr result (λ status. HasCause ⊥ (PlanRefuses said (raws book.now.turns)) status) }
 {
     match build(alloc, book) {
         Ok(built) => Ok(built),
@@ -120,33 +76,33 @@ fn planned(alloc: Global, book: &CheckedBook) -> Result<Built, Status>
     }
 }
 
-// The text of what a book builds.
-fn written(alloc: Global, book: &CheckedBook) -> Result<Vec<u8>, Status>
-    ensures ok { IfOk result (λ bytes. (said : Said) → IsCheckedOf said book.now → AnswersBook said bytes.items) }
-    ensures err { IfErr result (λ status. (said : Said) → IsCheckedOf said book.now → PlanningIsRefused (raws book.now.turns) said status) }
+// The text of what a checked book builds.
+fn text_of_plan(alloc: Global, book: &CheckedBook) -> Result<Vec<u8>, Status>
+    ensures { (said : Said) (count : ℕ) → IsCheckedOf said book.now → EndWith (planning said (raws book.now.turns) nothing) ⊥ count count result }
 {
-    let built = planned(alloc, book)?;
-    match text_of_built(alloc, built) {
-        Ok(text) => Ok(text),
-        Err(NoMemory) => Err(Status::Memory),
-    }
+    // This says that a least list is the only one; it does nothing.
+    least_lists_are_one();
+    let built = plan(alloc, book)?;
+    let text = text_of_built(alloc, built)?;
+    Ok(text)
 }
 
-// The text that answers `compile` for a book that was read and a target with no cell.
+// The text that answers `compile` for a book and cells that were read.
 fn answer_of<L: Ledger>(
     alloc: Global,
     book: RawBook,
+    cells: CellSet,
     steps: &mut Steps<L>,
 ) -> Result<Vec<u8>, Status>
-    requires { IsProperBook book }
-    ensures ok { IfOk result (λ bytes. AnswersBook book bytes.items) }
-    ensures err { IfErr result (λ status. BuildingIsRefused book status) }
+    requires book { IsProperBook book }
+    requires range { IsInRange (2 ^ 40) (alive cells) }
+    ensures ends { EndWith (building book (alive cells)) ⊥ steps.old steps.new result }
     ensures steps { steps.old ≤ steps.new }
 {
-    match checked(alloc, book, steps) {
-        Ok(book) => written(alloc, &book),
-        Err(status) => Err(status),
-    }
+    let target = target_of(alloc, cells, steps)?;
+    require_empty(alloc, &target)?;
+    let (book, _) = test_book(alloc, book, steps)?;
+    text_of_plan(alloc, &book)
 }
 
 /// The text that answers `compile` for the texts of these names.
@@ -157,18 +113,15 @@ pub(crate) fn compile<D: Depot, L: Ledger>(
     depot: &mut D,
     steps: &mut Steps<L>,
 ) -> Result<Vec<u8>, Status>
-    ensures ok { IfOk result (λ bytes. IfSome (D.texts depot.old) (λ texts. IsAnswer texts book_name.now target_name.now bytes.items)) }
-    ensures err { IfErr result (λ status. CompilingIsRefused (D.texts depot.old) book_name.now target_name.now (D.faults depot.old) (D.faults depot.new) status) }
+    ensures ends { EndWith (compile (D.texts depot.old) book_name.now target_name.now) (Rose (D.faults depot.old) (D.faults depot.new)) steps.old steps.new result }
+    ensures steps { steps.old ≤ steps.new }
     ensures texts_stay { D.texts depot.new ≡ D.texts depot.old }
     ensures count { IsLaterCount (D.faults depot.old) (D.faults depot.new) }
     ensures no_fault { result ≢ Err Status.ReadFault → D.faults depot.new ≡ D.faults depot.old }
     ensures quiet_stays { D.quiet depot.old → D.quiet depot.new }
     ensures quiet_serves { D.quiet depot.old → Holds (D.texts depot.old) book_name.now → Holds (D.texts depot.old) target_name.now → result ≢ Err Status.ReadFault }
-    ensures steps { steps.old ≤ steps.new }
 {
     let book = fetch_book(alloc, depot, book_name)?;
-    match fetch_target(alloc, depot, target_name, steps) {
-        Ok(()) => answer_of(alloc, book, steps),
-        Err(status) => Err(status),
-    }
+    let target = fetch_pattern(alloc, depot, target_name, Which::Target)?;
+    answer_of(alloc, book, target.cells, steps)
 }

@@ -1,9 +1,10 @@
 //! Fetching a text by its name.
 
-ghost use Rattle.std.specs.Prelude.{◌≡◌, ◌≢◌, IfOk, IfErr, IfSome, OnOk};
-ghost use Rattle.life_io.specs.Counts.{IsLaterCount};
+ghost use Rattle.std.specs.Prelude.{◌≡◌, ◌≢◌, IfOk, IfErr};
+ghost use Rattle.life_io.specs.Counts.{IsLaterCount, Rose};
 ghost use Rattle.life_io.specs.Texts.{Holds};
-ghost use Rattle.life_cli.specs.Causes.{IsHeld, FetchIsRefused};
+ghost use Rattle.life_cli.specs.Stages.{HasCause};
+ghost use Rattle.life_cli.specs.Inputs.{IsHeld, FetchRefuses};
 
 use crate::status::{Status, Which};
 use life_io::{Depot, FetchError};
@@ -19,8 +20,8 @@ pub(crate) fn fetch_text<D: Depot>(
     name: &str,
     which: Which,
 ) -> Result<Vec<u8>, Status>
-    ensures ok { IfOk result (λ text. IfSome (D.texts depot.old) (λ texts. IsHeld texts name.now text.items)) }
-    ensures err { IfErr result (λ status. FetchIsRefused (D.texts depot.old) name.now which (D.faults depot.old) (D.faults depot.new) status) }
+    ensures ok { IfOk result (λ text. IsHeld (D.texts depot.old) name.now text.items) }
+    ensures err { IfErr result (λ status. HasCause (Rose (D.faults depot.old) (D.faults depot.new)) (FetchRefuses (D.texts depot.old) name.now which) status) }
     ensures texts_stay { D.texts depot.new ≡ D.texts depot.old }
     ensures count { IsLaterCount (D.faults depot.old) (D.faults depot.new) }
     ensures no_fault { result ≢ Err Status.ReadFault → D.faults depot.new ≡ D.faults depot.old }

@@ -1,14 +1,15 @@
 //! The texts of a command, fetched and read.
 
-ghost use Rattle.std.specs.Prelude.{◌≡◌, ◌≢◌, ◌^◌, IfOk, IfErr, IfSome};
+ghost use Rattle.std.specs.Prelude.{◌≡◌, ◌≢◌, ◌^◌, IfOk, IfErr};
 ghost use Rattle.life_cells.specs.Cells.{alive};
-ghost use Rattle.life_io.specs.Counts.{IsLaterCount};
-ghost use Rattle.life_io.specs.Texts.{Holds};
-ghost use Rattle.life_rle.specs.Text.{Means};
-ghost use Rattle.book_parts.specs.Proper.{IsProperBook};
 ghost use Rattle.life_cells.specs.Boxes.{IsInRange};
+ghost use Rattle.life_io.specs.Counts.{IsLaterCount, Rose};
+ghost use Rattle.life_io.specs.Texts.{Holds};
+ghost use Rattle.book_parts.specs.Proper.{IsProperBook};
 ghost use Rattle.life_cli.specs.Book.{ReadsAsBook};
-ghost use Rattle.life_cli.specs.Causes.{HoldsBook, HoldsPattern, BookTextIsRefused, PatternTextIsRefused, BookReadingIsRefused, PatternReadingIsRefused};
+ghost use Rattle.life_cli.specs.Stages.{HasCause};
+ghost use Rattle.life_cli.specs.Inputs.{IsUnread, BookTextStops, HoldsBook, ReadsAsPattern, PatternTextStops, HoldsPattern};
+ghost use Rattle.life_cli.specs.declared.status.Which.TheVariants.{Book};
 
 use crate::fetch::fetch_text;
 use crate::status::{Status, Which};
@@ -22,7 +23,7 @@ use std::alloc::Global;
 fn book_of(alloc: Global, text: &[u8]) -> Result<RawBook, Status>
     ensures ok { IfOk result (λ book. ReadsAsBook text.now book) }
     ensures proper { IfOk result (λ book. IsProperBook book) }
-    ensures err { IfErr result (λ status. BookTextIsRefused text.now status) }
+    ensures err { IfErr result (λ status. HasCause ⊥ (BookTextStops text.now) status) }
 {
     match read_book(alloc, text) {
         Ok(book) => Ok(book),
@@ -33,9 +34,9 @@ fn book_of(alloc: Global, text: &[u8]) -> Result<RawBook, Status>
 
 // The pattern of a text.
 fn pattern_of(alloc: Global, text: &[u8], which: Which) -> Result<Pattern, Status>
-    ensures ok { IfOk result (λ pattern. Means text.now (alive pattern.cells)) }
+    ensures ok { IfOk result (λ pattern. ReadsAsPattern text.now (alive pattern.cells)) }
     ensures range { IfOk result (λ pattern. IsInRange (2 ^ 40) (alive pattern.cells)) }
-    ensures err { IfErr result (λ status. PatternTextIsRefused text.now which status) }
+    ensures err { IfErr result (λ status. HasCause ⊥ (PatternTextStops which text.now) status) }
 {
     match read_rle(alloc, text) {
         Ok(pattern) => Ok(pattern),
@@ -50,9 +51,9 @@ pub(crate) fn fetch_book<D: Depot>(
     depot: &mut D,
     name: &str,
 ) -> Result<RawBook, Status>
-    ensures ok { IfOk result (λ book. IfSome (D.texts depot.old) (λ texts. HoldsBook texts name.now book)) }
+    ensures ok { IfOk result (λ book. HoldsBook (D.texts depot.old) name.now book) }
     ensures proper { IfOk result (λ book. IsProperBook book) }
-    ensures err { IfErr result (λ status. BookReadingIsRefused (D.texts depot.old) name.now (D.faults depot.old) (D.faults depot.new) status) }
+    ensures err { IfErr result (λ status. HasCause (Rose (D.faults depot.old) (D.faults depot.new)) (IsUnread BookTextStops (D.texts depot.old) name.now Book) status) }
     ensures texts_stay { D.texts depot.new ≡ D.texts depot.old }
     ensures count { IsLaterCount (D.faults depot.old) (D.faults depot.new) }
     ensures no_fault { result ≢ Err Status.ReadFault → D.faults depot.new ≡ D.faults depot.old }
@@ -70,9 +71,9 @@ pub(crate) fn fetch_pattern<D: Depot>(
     name: &str,
     which: Which,
 ) -> Result<Pattern, Status>
-    ensures ok { IfOk result (λ pattern. IfSome (D.texts depot.old) (λ texts. HoldsPattern texts name.now (alive pattern.cells))) }
+    ensures ok { IfOk result (λ pattern. HoldsPattern (D.texts depot.old) name.now (alive pattern.cells)) }
     ensures range { IfOk result (λ pattern. IsInRange (2 ^ 40) (alive pattern.cells)) }
-    ensures err { IfErr result (λ status. PatternReadingIsRefused (D.texts depot.old) name.now which (D.faults depot.old) (D.faults depot.new) status) }
+    ensures err { IfErr result (λ status. HasCause (Rose (D.faults depot.old) (D.faults depot.new)) (IsUnread (PatternTextStops which) (D.texts depot.old) name.now which) status) }
     ensures texts_stay { D.texts depot.new ≡ D.texts depot.old }
     ensures count { IsLaterCount (D.faults depot.old) (D.faults depot.new) }
     ensures no_fault { result ≢ Err Status.ReadFault → D.faults depot.new ≡ D.faults depot.old }

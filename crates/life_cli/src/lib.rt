@@ -1,15 +1,18 @@
 //! The top call of the program: from the words of the command line and the texts of a depot to the bytes of a sink.
 #![tactic(auto)]
 
+mod books;
 mod checking;
 mod compiling;
 mod fetch;
 mod inputs;
+pub mod laws;
 mod lines;
 mod replaying;
 mod requests;
 pub mod run;
 pub mod status;
+mod verdict_lines;
 pub mod words;
 mod writing;
 

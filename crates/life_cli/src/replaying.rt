@@ -1,15 +1,15 @@
 //! The command `replay`.
 
-ghost use Rattle.std.specs.Prelude.{◌≡◌, ◌≢◌, ◌≤◌, ◌^◌, IfOk, IfErr, IfSome, OnOk};
+ghost use Rattle.std.specs.Prelude.{◌≡◌, ◌≢◌, ◌+◌, ◌≤◌, ◌^◌, IfOk, OnOk};
 ghost use Rattle.life_plane.specs.Plane.{run};
 ghost use Rattle.life_cells.specs.Cells.{alive};
 ghost use Rattle.life_cells.specs.Boxes.{IsInRange};
-ghost use Rattle.life_io.specs.Counts.{IsLaterCount};
+ghost use Rattle.life_io.specs.Counts.{IsLaterCount, Rose};
 ghost use Rattle.life_io.specs.Texts.{Holds};
 ghost use Rattle.life_rle.specs.Text.{Means};
 ghost use Rattle.life_rle.specs.Written.{IsRleText};
-ghost use Rattle.life_cli.specs.Replayed.{IsReplay};
-ghost use Rattle.life_cli.specs.Causes.{ReplayingIsRefused};
+ghost use Rattle.life_cli.specs.Stages.{EndWith};
+ghost use Rattle.life_cli.specs.Replayed.{replay};
 
 use crate::inputs::fetch_pattern;
 use crate::status::{Status, Which};
@@ -29,7 +29,8 @@ fn run_tiles<L: Ledger>(
 ) -> Result<(), NoMemory>
     requires { IsInRange (2 ^ 40) (alive tiles.old) }
     ensures run { OnOk result (alive tiles.new ≡ run generations (alive tiles.old)) }
-    ensures steps { steps.old ≤ steps.new }
+    ensures least { steps.old ≤ steps.new }
+    ensures most { steps.new ≤ steps.old + generations }
 {
     for _generation in 0..generations {
         if !tiles.step(steps)? {
@@ -49,7 +50,8 @@ fn generation<L: Ledger>(
     requires { IsInRange (2 ^ 40) (alive cells.now) }
     ensures run { IfOk result (λ later. alive later ≡ run generations (alive cells.now)) }
     ensures range { IfOk result (λ later. IsInRange (2 ^ 58) (alive later)) }
-    ensures steps { steps.old ≤ steps.new }
+    ensures least { steps.old ≤ steps.new }
+    ensures most { steps.new ≤ steps.old + generations }
 {
     let mut tiles = Tiles::from_cells(alloc, cells)?;
     run_tiles(&mut tiles, generations, steps)?;
@@ -66,7 +68,8 @@ fn text_of_generation<L: Ledger>(
     requires { IsInRange (2 ^ 40) (alive cells.now) }
     ensures text { IfOk result (λ bytes. IsRleText (run generations (alive cells.now)) None bytes.items) }
     ensures means { IfOk result (λ bytes. Means bytes.items (run generations (alive cells.now))) }
-    ensures steps { steps.old ≤ steps.new }
+    ensures least { steps.old ≤ steps.new }
+    ensures most { steps.new ≤ steps.old + generations }
 {
     let later = generation(alloc, cells, generations, steps)?;
     text_of_cells(alloc, later)
@@ -80,18 +83,15 @@ pub(crate) fn replay<D: Depot, L: Ledger>(
     depot: &mut D,
     steps: &mut Steps<L>,
 ) -> Result<Vec<u8>, Status>
-    ensures ok { IfOk result (λ bytes. IfSome (D.texts depot.old) (λ texts. IsReplay texts name.now generations bytes.items)) }
-    ensures err { IfErr result (λ status. ReplayingIsRefused (D.texts depot.old) name.now (D.faults depot.old) (D.faults depot.new) status) }
+    ensures ends { EndWith (replay (D.texts depot.old) name.now generations) (Rose (D.faults depot.old) (D.faults depot.new)) steps.old steps.new result }
+    ensures steps { steps.old ≤ steps.new }
     ensures texts_stay { D.texts depot.new ≡ D.texts depot.old }
     ensures count { IsLaterCount (D.faults depot.old) (D.faults depot.new) }
     ensures no_fault { result ≢ Err Status.ReadFault → D.faults depot.new ≡ D.faults depot.old }
     ensures quiet_stays { D.quiet depot.old → D.quiet depot.new }
     ensures quiet_serves { D.quiet depot.old → Holds (D.texts depot.old) name.now → result ≢ Err Status.ReadFault }
-    ensures steps { steps.old ≤ steps.new }
 {
     let pattern = fetch_pattern(alloc, depot, name, Which::Pattern)?;
-    match text_of_generation(alloc, &pattern.cells, generations, steps) {
-        Ok(text) => Ok(text),
-        Err(NoMemory) => Err(Status::Memory),
-    }
+    let text = text_of_generation(alloc, &pattern.cells, generations, steps)?;
+    Ok(text)
 }

@@ -1,9 +1,10 @@
 //! The answer to a command.
 
-ghost use Rattle.std.specs.Prelude.{◌≡◌, ◌≢◌, ◌≤◌, IfOk, IfErr, IfSome};
-ghost use Rattle.life_io.specs.Counts.{IsLaterCount};
+ghost use Rattle.std.specs.Prelude.{◌≡◌, ◌≢◌, ◌≤◌};
+ghost use Rattle.life_io.specs.Counts.{IsLaterCount, Rose};
 ghost use Rattle.life_cli.specs.Requests.{request_of};
-ghost use Rattle.life_cli.specs.Run.{Answer, IsRefused, AreHeld};
+ghost use Rattle.life_cli.specs.Stages.{EndWith};
+ghost use Rattle.life_cli.specs.Run.{stages_of, AreHeld};
 
 use crate::checking::check;
 use crate::compiling::compile;
@@ -22,14 +23,13 @@ pub(crate) fn answer<D: Depot, L: Ledger>(
     depot: &mut D,
     steps: &mut Steps<L>,
 ) -> Result<Vec<u8>, Status>
-    ensures ok { IfOk result (λ bytes. IfSome (D.texts depot.old) (λ texts. Answer (request_of command.now) texts bytes.items)) }
-    ensures err { IfErr result (λ status. IsRefused (request_of command.now) (D.texts depot.old) (D.faults depot.old) (D.faults depot.new) status) }
+    ensures ends { EndWith (stages_of (D.texts depot.old) (request_of command.now)) (Rose (D.faults depot.old) (D.faults depot.new)) steps.old steps.new result }
+    ensures steps { steps.old ≤ steps.new }
     ensures texts_stay { D.texts depot.new ≡ D.texts depot.old }
     ensures count { IsLaterCount (D.faults depot.old) (D.faults depot.new) }
     ensures no_fault { result ≢ Err Status.ReadFault → D.faults depot.new ≡ D.faults depot.old }
     ensures quiet_stays { D.quiet depot.old → D.quiet depot.new }
-    ensures quiet_serves { D.quiet depot.old → AreHeld (request_of command.now) (D.texts depot.old) → result ≢ Err Status.ReadFault }
-    ensures steps { steps.old ≤ steps.new }
+    ensures quiet_serves { D.quiet depot.old → AreHeld (D.texts depot.old) (request_of command.now) → result ≢ Err Status.ReadFault }
 {
     match *command {
         Command::Check { book } => check(alloc, book, depot, steps),

@@ -2,13 +2,15 @@
 
 ghost use Rattle.std.specs.Prelude.{◌≡◌};
 ghost use Rattle.life_cli.specs.Statuses.{number_of};
+ghost use Rattle.life_cli.specs.declared.status.Status.TheVariants.{Memory};
 
 use crate::words::WordsError;
 use book_text::BookError;
-use life_target::TargetError;
-use life_cells::Cell;
+use life_cells::{Cell, NoMemory};
 use life_rle::RleError;
+use life_target::TargetError;
 use recipe_book::BookRefusal;
+use std::alloc::AllocError;
 use stream_time::PlanError;
 
 /// Which text is meant.
@@ -83,5 +85,21 @@ impl Status {
             Status::Memory => 12,
             Status::NotYet { .. } => 13,
         }
+    }
+}
+
+impl From<NoMemory> for Status {
+    ghost from_gives = { λ _ status. status ≡ Memory };
+
+    fn from(_: NoMemory) -> Self {
+        Status::Memory
+    }
+}
+
+impl From<AllocError> for Status {
+    ghost from_gives = { λ _ status. status ≡ Memory };
+
+    fn from(_: AllocError) -> Self {
+        Status::Memory
     }
 }

@@ -1,7 +1,7 @@
 //! The words of the command line.
 
 ghost use Rattle.std.specs.Prelude.{◌≡◌, ◌≢◌, ℕ, List, ◌∷◌, [], length, IfOk, IfErr, IfSome, IfNone, IsTrue, ◌↔◌, codes};
-ghost use Rattle.life_cli.specs.Words.{AreRefused, BeginsWith, IsGenerations, first_dash, has_dash, has_plus, texts_of};
+ghost use Rattle.life_cli.specs.Words.{AreRefused, BeginWith, IsGenerations, first_dash, has_dash, has_plus, texts_of};
 ghost use Rattle.life_cli.specs.Requests.{Ask, request_of};
 
 use thiserror::Error;
@@ -131,7 +131,7 @@ fn generations_of(word: &str) -> Option<u32>
 
 // The command `check` of these words, the first of which names it.
 fn read_check(words: &[String]) -> Result<Command<'_>, WordsError>
-    requires { (rest : List (List ℕ)) × BeginsWith words.now (codes "check") rest }
+    requires { (rest : List (List ℕ)) × BeginWith words.now (codes "check") rest }
     ensures ok { IfOk result (λ command. Ask words.now (request_of command)) }
     ensures err { IfErr result (λ e. AreRefused words.now e) }
 {
@@ -143,7 +143,7 @@ fn read_check(words: &[String]) -> Result<Command<'_>, WordsError>
 
 // The command `compile` of these words, the first of which names it.
 fn read_compile(words: &[String]) -> Result<Command<'_>, WordsError>
-    requires { (rest : List (List ℕ)) × BeginsWith words.now (codes "compile") rest }
+    requires { (rest : List (List ℕ)) × BeginWith words.now (codes "compile") rest }
     ensures ok { IfOk result (λ command. Ask words.now (request_of command)) }
     ensures err { IfErr result (λ e. AreRefused words.now e) }
 {
@@ -155,7 +155,7 @@ fn read_compile(words: &[String]) -> Result<Command<'_>, WordsError>
 
 // The command `replay` of these words, the first of which names it.
 fn read_replay(words: &[String]) -> Result<Command<'_>, WordsError>
-    requires { (rest : List (List ℕ)) × BeginsWith words.now (codes "replay") rest }
+    requires { (rest : List (List ℕ)) × BeginWith words.now (codes "replay") rest }
     ensures ok { IfOk result (λ command. Ask words.now (request_of command)) }
     ensures err { IfErr result (λ e. AreRefused words.now e) }
 {

@@ -1,6 +1,14 @@
-use Rattle.life_cli.proofs.Together.{replayed}
+use Rattle.std.proofs.Common.{arith}
+use Rattle.life_plane.specs.Plane.{run}
+use Rattle.life_cells.specs.Cells.{alive}
+use Rattle.life_cli.specs.Replayed.{IsReplayed}
+use Rattle.life_cli.proofs.StageLaws.{behind, answered}
 use Rattle.life_cli.proofs.replaying.replay.Goals as goal
 
-pub returns-in-Ok-clause-ok : goal.returns-in-Ok-clause-ok
-returns-in-Ok-clause-ok g c =
-    replayed (g.D.Depot.texts c.args.depot.now) c.args.name.now c.args.generations _ _ c.in_ok-pattern.ensures.ok c.in-Ok.ensures.text c.in-Ok.ensures.means
+pub returns-clause-ends : goal.returns-clause-ends
+returns-clause-ends g c =
+    let most = c.in_ok-text.ensures.most in
+    behind {mid = c.args.steps.now} (alive c.in_ok-pattern.pattern.cells) (λ f. absurd f) c.in_ok-pattern.ensures.ok
+    (answered c.args.generations (IsReplayed (alive c.in_ok-pattern.pattern.cells) c.args.generations) ⊥ c.args.steps.now c.text_of_generation.new.steps c.in_ok-text.text
+    (record { written = c.in_ok-text.ensures.text; means = c.in_ok-text.ensures.means }) (omega arith))
+    (omega arith)

@@ -1,16 +1,19 @@
-use Rattle.life_cli.proofs.Completeness.{PartsAreExact, due_runs_are_done}
+use Rattle.std.proofs.Common.{refl}
+use Rattle.life_cli.specs.Run.{Run}
+use Rattle.life_cli.proofs.Ending.{reported, due_runs_are_done}
 use Rattle.life_cli.proofs.run.life_run.Goals as goal
 
 pub returns-clause-complete : goal.returns-clause-complete
 returns-clause-complete g c =
-    let exact : PartsAreExact = record {
-      one_book = c.texts_say_one_book.ensures;
-      book_read = c.books_have_no_refusal.ensures;
-      one_plane = c.texts_mean_one_plane.ensures;
-      pattern_read = c.fine_texts_have_no_refusal.ensures;
-      empty_taken = c.nothing_is_a_target.ensures;
-      target_taken = c.targets_have_no_refusal.ensures;
-      one_list = c.sound_turns_are_one.ensures;
-      book_taken = c.taken_books_have_no_refusal.ensures;
+    let run : Run = record {
+      words = c.args.words.now;
+      told = g.D.Depot.texts c.args.depot.now;
+      reads = g.D.Depot.faults c.args.depot.now;
+      reads_then = g.D.Depot.faults c.run_command-status.new.depot;
+      out = g.O.Sink.written c.args.out.now;
+      out_then = g.O.Sink.written c.run_command-status.new.out;
+      writes = g.O.Sink.faults c.args.out.now;
+      writes_then = g.O.Sink.faults c.run_command-status.new.out;
     } in
-    due_runs_are_done exact _ _ _ _ _ _ _ _ _ c.run_and_report.ensures.cause
+    due_runs_are_done c.passing_stages_do_not_refuse.ensures run c.report.result run.told refl
+    (reported run c.run_command-status.result c.report.result c.run_command-status.ensures.ends c.report.ensures.same c.report.ensures.done)

@@ -1,5 +1,7 @@
-use Rattle.life_cli.proofs.WordLists.{wrong_compile}
+use Rattle.std.proofs.Common.{refl}
+use Rattle.std.specs.Prelude.{codes}
+use Rattle.life_cli.proofs.WordLists.{miscounted}
 use Rattle.life_cli.proofs.words.read_compile.Goals as goal
 
 pub returns-in-None-clause-err : goal.returns-in-None-clause-err
-returns-in-None-clause-err c = wrong_compile c.args.words.now c.requires c.in-None.ensures.none
+returns-in-None-clause-err c = miscounted c.args.words.now (codes "compile") 2 c.requires refl c.in-None.ensures.none

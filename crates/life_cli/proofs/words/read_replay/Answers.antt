@@ -1,5 +1,7 @@
-use Rattle.life_cli.proofs.WordLists.{wrong_replay}
+use Rattle.std.proofs.Common.{refl}
+use Rattle.std.specs.Prelude.{codes}
+use Rattle.life_cli.proofs.WordLists.{miscounted}
 use Rattle.life_cli.proofs.words.read_replay.Goals as goal
 
 pub returns-in_default-clause-err : goal.returns-in_default-clause-err
-returns-in_default-clause-err c = wrong_replay c.args.words.now c.requires c.in_default.ensures.none
+returns-in_default-clause-err c = miscounted c.args.words.now (codes "replay") 2 c.requires refl c.in_default.ensures.none

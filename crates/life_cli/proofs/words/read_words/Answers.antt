@@ -1,17 +1,10 @@
 -- The words, text by text, from their items.
-use Rattle.std.proofs.Common.{◌≡◌, ℕ, List, ◌<◌, length, sym, ap, ◌∙◌, arith, true, false, ◌∷◌, inl, inr}
-use Rattle.std.specs.Prelude.{codes}
-use Rattle.life_cli.specs.Words.{IsCommand}
+use Rattle.std.proofs.Common.{◌≡◌, ℕ, List, ◌<◌, length, sym, ap, ◌∙◌, arith, true, false, ◌∷◌}
 use Rattle.std.proofs.lemmas.Bool.Decides.{nat_tests}
 use Rattle.std.specs.String.{string_bytes}
 use Rattle.life_cli.proofs.WordLists.{rest_of, texts_from_first}
+use Rattle.life_cli.proofs.Asking.{no_command}
 use Rattle.life_cli.proofs.words.read_words.Goals as goal
-
--- a word that is none of the three is no command
-no_command : (first : List ℕ) → (first ≡ codes "check" → ⊥) → (first ≡ codes "compile" → ⊥) → (first ≡ codes "replay" → ⊥) → IsCommand first → ⊥
-no_command first a b c (many, inl h) = a h.0
-no_command first a b c (many, inr (inl h)) = b h.0
-no_command first a b c (many, inr (inr h)) = c h.0
 
 pub read_check-requires : goal.read_check-requires
 read_check-requires c =
@@ -48,18 +41,15 @@ read_replay-requires c =
 
 pub returns-clause-err : goal.returns-clause-err
 returns-clause-err c =
-    let some : 0 < length c.args.words.now = grind (arith, nat_tests) in (
-      string_bytes c.index-words-0.result,
-      (
-        rest_of c.args.words.now,
-        (
-          record {
-            whole = texts_from_first c.args.words.now c.index-words-0.result some ∙ ap (λ w. string_bytes w ∷ rest_of c.args.words.now) (sym c.index-words-0.is);
-            plain = sym c.first_dash.ensures ∙ c.in_default.is;
-          },
-          no_command _ (λ e. let bad : false ≡ true = sym c.if-is_word.false ∙ c.is_word.ensures.1 (c.as_str-name.ensures.value ∙ e) in cc)
-              (λ e. let bad : false ≡ true = sym c.if-is_word-2.false ∙ c.is_word-2.ensures.1 (c.as_str-name.ensures.value ∙ e) in cc)
-              (λ e. let bad : false ≡ true = sym c.if-is_word-3.false ∙ c.is_word-3.ensures.1 (c.as_str-name.ensures.value ∙ e) in cc),
-        ),
-      ),
-    )
+    let some : 0 < length c.args.words.now = grind (arith, nat_tests) in
+    record {
+      first = string_bytes c.index-words-0.result;
+      rest = rest_of c.args.words.now;
+      begin = record {
+        whole = texts_from_first c.args.words.now c.index-words-0.result some ∙ ap (λ w. string_bytes w ∷ rest_of c.args.words.now) (sym c.index-words-0.is);
+        plain = sym c.first_dash.ensures ∙ c.in_default.is;
+      };
+      unknown = no_command _ (λ e. let bad : false ≡ true = sym c.if-is_word.false ∙ c.is_word.ensures.1 (c.as_str-name.ensures.value ∙ e) in cc)
+          (λ e. let bad : false ≡ true = sym c.if-is_word-2.false ∙ c.is_word-2.ensures.1 (c.as_str-name.ensures.value ∙ e) in cc)
+          (λ e. let bad : false ≡ true = sym c.if-is_word-3.false ∙ c.is_word-3.ensures.1 (c.as_str-name.ensures.value ∙ e) in cc);
+    }

@@ -1,7 +1,7 @@
 use Rattle.std.specs.Prelude.{◌≡◌, ◌++◌, map, drop}
 use Rattle.std.specs.String.{string_bytes}
 use Rattle.life_cli.specs.Verdicts.{verdict_lines}
-use Rattle.life_cli.proofs.checking.lines_of.Given as goal
+use Rattle.life_cli.proofs.verdict_lines.lines_of.Given as goal
 
 -- the lines so far, with those of the entries that are left, are all lines
 abbrev pub invariant-loop-title : goal.invariant-loop-title

@@ -1,0 +1,15 @@
+use Rattle.life_cli.proofs.Exactness.{PartsAreExact, requests_are_exact}
+use Rattle.life_cli.proofs.laws.stages_are_exact.Goals as goal
+
+pub returns : goal.returns
+returns c =
+    let exact : PartsAreExact = record {
+      one_book = c.texts_say_one_book.ensures;
+      book_read = c.books_have_no_refusal.ensures;
+      one_plane = c.texts_mean_one_plane.ensures;
+      pattern_read = c.fine_texts_have_no_refusal.ensures;
+      target_taken = c.targets_have_no_refusal.ensures;
+      one_list = c.sound_turns_are_one.ensures;
+      book_taken = c.taken_books_have_no_refusal.ensures;
+    } in
+    requests_are_exact exact

@@ -1,0 +1,51 @@
+//! Laws of requests: words ask for one at most and aren't refused then, and stages that pass don't refuse.
+
+ghost use Rattle.std.specs.Prelude.{◌≡◌, List, Some};
+ghost use Rattle.life_io.specs.Texts.{HeldText};
+ghost use Rattle.life_cli.specs.Words.{Words, AreRefused};
+ghost use Rattle.life_cli.specs.Requests.{Request, Ask};
+ghost use Rattle.life_cli.specs.Stages.{Pass, Refuse};
+ghost use Rattle.life_cli.specs.Exact.{AreExact};
+ghost use Rattle.life_cli.specs.Run.{stages_of};
+ghost use Rattle.life_cli.specs.declared.words.WordsError.{WordsError};
+ghost use Rattle.life_cli.specs.declared.status.Status.{Status};
+
+use crate::status::Status;
+use crate::words::WordsError;
+use book_read::laws::{books_have_no_refusal, texts_say_one_book};
+use life_rle::laws::{fine_texts_have_no_refusal, texts_mean_one_plane};
+use life_target::laws::targets_have_no_refusal;
+use recipe_book::laws::{sound_turns_are_one, taken_books_have_no_refusal};
+
+/// Words ask for one request at most.
+pub fn words_ask_for_one_request()
+    ensures { (words : Words) (a b : Request) → Ask words a → Ask words b → a ≡ b }
+{}
+
+/// Words that ask for a request are not refused.
+pub fn asking_words_are_not_refused()
+    ensures { (words : Words) (request : Request) (e : WordsError) → Ask words request → AreRefused words e → ⊥ }
+{}
+
+/// Each stage of a request passes with one value at most, and doesn't refuse where it passes.
+pub fn stages_are_exact()
+    ensures { (texts : List HeldText) (request : Request) → AreExact (stages_of (Some texts) request) }
+{
+    // These say so of each stage; they do nothing.
+    texts_say_one_book();
+    books_have_no_refusal();
+    texts_mean_one_plane();
+    fine_texts_have_no_refusal();
+    targets_have_no_refusal();
+    sound_turns_are_one();
+    taken_books_have_no_refusal();
+}
+
+/// Where each stage of a request passes, none refuses.
+pub fn passing_stages_do_not_refuse()
+    ensures { (texts : List HeldText) (request : Request) (status : Status) →
+        Pass (stages_of (Some texts) request) → Refuse (stages_of (Some texts) request) status → ⊥ }
+{
+    // This says that the stages are exact; it does nothing.
+    stages_are_exact();
+}
