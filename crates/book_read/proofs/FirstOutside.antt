@@ -57,4 +57,3 @@ none_is ns (Some z) e h = absurd (cc e)
 pub one_each : (limit : Limit) (zs : List ℤ) → flat_map (λ z. held limit z ∷ []) zs ≡ map (held limit) zs
 one_each limit [] = refl
 one_each limit (z ∷ zs) = ap (λ (ns : List Limited). held limit z ∷ ns) (one_each limit zs)
-
