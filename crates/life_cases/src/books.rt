@@ -31,8 +31,8 @@ pub fn show_book(alloc: Global, text: &[u8], report: &mut String) -> Result<bool
     Ok(true)
 }
 
-// The book that a text says, checked.
-fn checked<L: Ledger>(alloc: Global, text: &[u8], steps: &mut Steps<L>) -> Option<CheckedBook> {
+/// The book that a text says, checked.
+pub fn checked<L: Ledger>(alloc: Global, text: &[u8], steps: &mut Steps<L>) -> Option<CheckedBook> {
     let book = read_book(alloc, text).ok()?;
     let (book, _) = check_book(alloc, book, steps).ok()?;
     Some(book)

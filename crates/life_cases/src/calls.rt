@@ -2,6 +2,7 @@
 
 use crate::books::{show_book, show_copies, show_route, show_salvos, show_states};
 use crate::cells::{show_body, show_hits, show_islands, show_shape};
+use crate::clearing::show_clear;
 use crate::runs::{Fails, run_life};
 use crate::sets::{show_inserts, show_pair, show_plain, show_set};
 use crate::texts::Texts;
@@ -72,6 +73,7 @@ fn call_on_text<L: Ledger>(
         "book" => show_book(alloc, text, report),
         "copies" => show_copies(alloc, text, report),
         "salvos" => show_salvos(alloc, text, report, steps),
+        "clear" => show_clear(alloc, texts, text, words, report, steps),
         "states" => show_states(alloc, text, words, report, steps),
         "route" => show_route(alloc, text, words, report, steps),
         name => call_on_two(alloc, texts, name, text, words, report),

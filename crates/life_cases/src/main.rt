@@ -8,6 +8,7 @@ mod books;
 mod calls;
 mod cases;
 mod cells;
+mod clearing;
 mod numbers;
 mod runs;
 mod sets;
