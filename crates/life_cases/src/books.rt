@@ -9,7 +9,7 @@ use crate::show::{show_cells, show_lines};
 use book_parts::{Name, Numbers};
 use book_text::{read_book, write_book};
 use elbow_graph::elbow_states;
-use elbow_route::{Elbow, route_to_close, route_to_lane};
+use elbow_route::{Elbow, ElbowGraph, Goal, least_list, route_to_close, route_to_lane};
 use life_cells::NoMemory;
 use life_steps::Steps;
 use recipe_book::{CheckedBook, check_book};
@@ -167,6 +167,38 @@ pub fn show_copies(alloc: Global, text: &[u8], report: &mut String) -> Result<bo
         let same = name == turn.name && delays == turn.delays;
         let another = name == other || delays == others;
         write!(report, "{text} {items:?} same {same} another {another}\n")?;
+    }
+    Ok(true)
+}
+
+/// For each lane from one to another the least list of sound turns of a book that serves it from an elbow, by its kind and shift, within a
+/// span.
+pub fn show_lanes<L: Ledger>(
+    alloc: Global,
+    text: &[u8],
+    words: &[String],
+    report: &mut String,
+    steps: &mut Steps<L>,
+) -> Result<bool, NoMemory> {
+    let numbers = numbers_of(alloc, words)?;
+    let [kind, shift, first, last, span] = *numbers.as_slice() else {
+        return Ok(false);
+    };
+    let Ok(kind) = usize::try_from(kind) else {
+        return Ok(false);
+    };
+    let (shift, span) = (i64::from(shift), i64::from(span));
+    if span < 0 || MOST_SPAN < span || shift < -span || span < shift {
+        return Ok(false);
+    }
+    let Some(book) = checked(alloc, text, steps) else {
+        return Ok(false);
+    };
+    let graph = ElbowGraph::of(alloc, book.turns())?;
+    for lane in first..=last {
+        let goal = Goal::Lane(i64::from(lane));
+        let list = least_list(alloc, &graph, goal, Elbow { kind, shift }, span)?;
+        write!(report, "{lane} {list:?}\n")?;
     }
     Ok(true)
 }

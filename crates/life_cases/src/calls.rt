@@ -1,6 +1,6 @@
 //! What a case runs: the program, or a call that the program does not offer.
 
-use crate::books::{show_book, show_copies, show_route, show_salvos, show_states};
+use crate::books::{show_book, show_copies, show_lanes, show_route, show_salvos, show_states};
 use crate::cells::{show_body, show_hits, show_islands, show_shape};
 use crate::clearing::show_clear;
 use crate::runs::{Fails, run_life};
@@ -76,6 +76,7 @@ fn call_on_text<L: Ledger>(
         "clear" => show_clear(alloc, texts, text, words, report, steps),
         "states" => show_states(alloc, text, words, report, steps),
         "route" => show_route(alloc, text, words, report, steps),
+        "lanes" => show_lanes(alloc, text, words, report, steps),
         name => call_on_two(alloc, texts, name, text, words, report),
     }
 }
