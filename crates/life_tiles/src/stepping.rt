@@ -69,6 +69,7 @@ fn make_tile(tiles: &mut TileMap, index: usize)
 }
 
 // The words of the tile at this place, and those above and below; 0 where there is no tile.
+#[inline(always)]
 fn strip(tiles: &TileMap, place: Place) -> Strip
     requires tiled { IsTiled tiles.now }
     requires near { IsWithin (2 ^ 60) place }
@@ -81,6 +82,7 @@ fn strip(tiles: &TileMap, place: Place) -> Strip
 }
 
 // The words of the tile at this place, from index 1 on; 0 where there is no tile.
+#[inline(always)]
 fn tile_words(tiles: &TileMap, place: Place) -> Strip
     requires { IsTiled tiles.now }
     ensures { (down : ℕ) → down < 64 → slice_index result (down + 1) ≡ words_of tiles.now place.column (pos 64 *ℤ place.row +ℤ pos down) }
@@ -92,6 +94,7 @@ fn tile_words(tiles: &TileMap, place: Place) -> Strip
 }
 
 // The words of no tile.
+#[inline(always)]
 fn no_words() -> Strip
     ensures { (j : ℕ) → slice_index result j ≡ 0 }
 {
@@ -99,6 +102,7 @@ fn no_words() -> Strip
 }
 
 // The words from this one on, from index 1 on.
+#[inline(always)]
 fn copied(rows: &[u64], first: usize) -> Strip
     requires { first + 64 ≤ length rows.now }
     ensures { (down : ℕ) → down < 64 → slice_index result (down + 1) ≡ slice_index rows.now (first + down) }
@@ -131,6 +135,7 @@ fn step_tile(west: &Strip, here: &Strip, east: &Strip, next: &mut [u64], first: 
 }
 
 // The words of three strips at one height.
+#[inline(always)]
 fn row(west: &Strip, here: &Strip, east: &Strip, at: usize) -> Row
     requires { at < 66 }
     ensures { result ≡ row_in west.now here.now east.now at }
