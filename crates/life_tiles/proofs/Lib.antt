@@ -1,1 +1,9 @@
--- Lemmas on the engine.
+pub mod Tiling
+pub mod Added
+pub mod Grown
+pub mod Stepped
+pub mod Lists
+pub mod Boxed
+pub mod Evolved
+pub mod Pruned
+pub mod Calmed

@@ -6,7 +6,15 @@ ghost use Rattle.life_plane.specs.Plane.{step};
 ghost use Rattle.life_cells.specs.Cells.{alive, empty};
 ghost use Rattle.life_cells.specs.Boxes.{IsInRange, IsLeastBox};
 
-use life_cells::{Bounds, CellSet, NoMemory, step_plain};
+use crate::advancing::advance;
+use crate::bounding::bounds_of;
+use crate::filling::tiles_with;
+use crate::growing::make_neighbours;
+use crate::pruning::tidy;
+use crate::reading::live_cells;
+use crate::stepping::fill_next;
+use crate::tile_map::TileMap;
+use life_cells::{Bounds, CellSet, NoMemory};
 use life_steps::Steps;
 use std::alloc::Global;
 use std::marker::Model;
@@ -16,17 +24,20 @@ use std::sync::ledger::Ledger;
 #[derive(Drop)]
 pub struct Tiles {
     alloc: Global,
-    cells: CellSet,
+    tiles: TileMap,
 }
 
 impl Model for Tiles {
     ghost use Rattle.life_cells.specs.Cells.{Cells, coded_cells};
+    ghost use Rattle.life_tiles.specs.Tiling.{set_of, IsTiled, IsRested, IsRecent};
 
     ghost Value = { Cells };
 
     ghost coded = { coded_cells };
 
-    ghost view = { λ t. t.cells };
+    ghost view = { λ t. set_of t.tiles };
+
+    ghost invariant = { λ t. IsTiled t.tiles × IsRested t.tiles × IsRecent t.tiles };
 }
 
 impl Tiles {
@@ -35,8 +46,8 @@ impl Tiles {
         requires { IsInRange (2 ^ 61) (alive cells.now) }
         ensures { IfOk result (λ tiles. tiles ≡ cells.now) }
     {
-        let cells = cells.copy()?;
-        Ok(Tiles { alloc, cells })
+        let tiles = tiles_with(alloc, cells.cells())?;
+        Ok(Tiles { alloc, tiles })
     }
 
     /// Evolves the pattern by one generation, which is counted. The answer is whether a cell changed.
@@ -49,10 +60,11 @@ impl Tiles {
         ensures least { steps.old ≤ steps.new }
         ensures most { steps.new ≤ steps.old + 1 }
     {
-        let next = step_plain(self.alloc, &self.cells)?;
+        make_neighbours(&mut self.tiles)?;
         steps.tick();
-        let changed = !next.equal(&self.cells);
-        self.cells = next;
+        fill_next(&mut self.tiles);
+        let changed = advance(&mut self.tiles);
+        tidy(&mut self.tiles);
         Ok(changed)
     }
 
@@ -60,7 +72,9 @@ impl Tiles {
     pub fn to_cells(&self) -> Result<CellSet, NoMemory>
         ensures { IfOk result (λ cells. cells ≡ self.now) }
     {
-        self.cells.copy()
+        let cells = live_cells(self.alloc, &self.tiles)?;
+        let set = CellSet::from_cells(self.alloc, &cells)?;
+        Ok(set)
     }
 
     /// The least box about the cells; none where there is no cell. It takes no memory.
@@ -68,6 +82,6 @@ impl Tiles {
         ensures some { IfSome result (λ bounds. IsLeastBox bounds (alive self.now)) }
         ensures none { IfNone result (self.now ≡ empty) }
     {
-        self.cells.bounds()
+        bounds_of(&self.tiles)
     }
 }

@@ -1,0 +1,3 @@
+pub mod Adder
+pub mod Vectors
+pub mod Words

@@ -1,0 +1,2 @@
+-- How a set of cells lies in tiles.
+pub mod Tiling
