@@ -9,6 +9,7 @@ use Rattle.std.proofs.Common.{refl, sym, ap, subst, ◌∙◌, arith, inl, inr, 
 use Rattle.std.proofs.lemmas.List.{take_more, length-take-le}
 use Rattle.std.proofs.lemmas.List.Elements.{Contains-push, Contains-append_left}
 use Rattle.std.proofs.lemmas.Option.{slice_get_within}
+use Rattle.life_plane.specs.ListLaws.{all_push}
 use Rattle.life_plane.specs.Plane.{Plane}
 use Rattle.life_cells.specs.Cells.{Cells, alive, empty}
 use Rattle.life_cells.specs.Laws.{same_cells, alive-empty}
@@ -67,13 +68,9 @@ all_below : (salvos : List Struck) (shape : Plane) (ns : List ℕ) → AllByRecu
 all_below salvos shape [] h = tt
 all_below salvos shape (n ∷ ns) h = (number_within salvos shape n h.0, all_below salvos shape ns h.1)
 
-one_push : (P : ℕ → Type 0) (ns : List ℕ) (m : ℕ) → AllByRecursion P ns → P m → AllByRecursion P (ns ++ (m ∷ []))
-one_push P [] m h p = (p, tt)
-one_push P (n ∷ ns) m h p = (h.0, one_push P ns m h.1 p)
-
 rises : (ns : List ℕ) (m : ℕ) → AllByRecursion (λ n. n < m) ns → AreAscending ns → AreAscending (ns ++ (m ∷ []))
 rises [] m below h = (tt, tt)
-rises (n ∷ ns) m below h = (one_push (λ later. n < later) ns m h.0 below.0, rises ns m below.1 h.1)
+rises (n ∷ ns) m below h = (all_push (λ later. n < later) ns m h.0 below.0, rises ns m below.1 h.1)
 
 -- the next salvo doesn't build the shape
 same_numbers : (salvos : List Struck) (s : Struck) (shape : Plane) (ns : List ℕ) → (Builds s shape → ⊥) → AreNumbersOf salvos shape ns → AreNumbersOf (salvos ++ (s ∷ [])) shape ns
@@ -90,7 +87,7 @@ same_numbers salvos s shape ns not h = record {
 -- the next salvo builds the shape
 one_number_more : (salvos : List Struck) (s : Struck) (shape : Plane) (ns : List ℕ) → Builds s shape → AreNumbersOf salvos shape ns → AreNumbersOf (salvos ++ (s ∷ [])) shape (ns ++ ((length salvos + 1) ∷ []))
 one_number_more salvos s shape ns builds h = record {
-  each = one_push (IsNumberOf (salvos ++ (s ∷ [])) shape) ns (length salvos + 1) (numbers_kept salvos s shape ns h.each) (number_last salvos s shape builds);
+  each = all_push (IsNumberOf (salvos ++ (s ∷ [])) shape) ns (length salvos + 1) (numbers_kept salvos s shape ns h.each) (number_last salvos s shape builds);
   all = λ n is. by n (number_cases salvos s shape n is);
   ascending = rises ns (length salvos + 1) (all_below salvos shape ns h.each) h.ascending;
 }

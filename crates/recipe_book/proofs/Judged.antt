@@ -25,7 +25,7 @@ use Rattle.recipe_book.specs.Entries.{IsSoundIn}
 use Rattle.recipe_book.specs.Verdicts.{TurnFails, SalvoFails, IsTurnVerdict, IsSalvoVerdict}
 use Rattle.recipe_book.specs.Accepting.{IsKeptTurn, IsKeptSalvo}
 use Rattle.recipe_book.specs.declared.verdict.Verdict.{Verdict}
-use Rattle.recipe_book.proofs.SoFar.{IsSoFar}
+use Rattle.recipe_book.proofs.JudgedSoFar.{IsSoFar}
 
 -- the turns so far
 abbrev pub TurnsSoFar : Settings → List RawKind → List RawTurn → List RawTurn → List Checked → List Verdict → List Verdict → ℕ → ℕ → Type 0

@@ -1,5 +1,5 @@
 -- Lemmas on checked books.
-pub mod SoFar
+pub mod JudgedSoFar
 pub mod Judged
 pub mod Indexing
 pub mod Refusing

@@ -6,6 +6,7 @@ ghost use Rattle.life_cells.specs.Cells.{alive};
 ghost use Rattle.life_cells.specs.Boxes.{IsInRange};
 ghost use Rattle.book_parts.specs.Limits.{IsCoordinate};
 ghost use Rattle.book_parts.specs.Proper.{IsProperHand};
+ghost use Rattle.book_parts.specs.declared.limits.TheConstants.{MOST_LANES};
 ghost use Rattle.recipe_hit.specs.Strike.{IsHit};
 ghost use Rattle.recipe_hit.specs.Sound.{AreHits, what_is_left};
 ghost use Rattle.recipe_hit.specs.Checked.{AreSmallFrames};
@@ -37,7 +38,7 @@ pub(crate) fn strike_in_turn<L: Ledger>(
     steps: &mut Steps<L>,
 ) -> Result<Vec<Hit>, SalvoRefusal>
     requires hand { IsProperHand (alive hand.now) }
-    requires few { length lanes.now ≤ 64 }
+    requires few { length lanes.now ≤ MOST_LANES }
     requires lanes { AllByRecursion IsCoordinate lanes.now }
     ensures hits { IfOk result (λ hits. AreHits (alive hand.now) lanes.now hits.items) }
     ensures small { IfOk result (λ hits. AreSmallFrames hits.items) }

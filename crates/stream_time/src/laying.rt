@@ -1,12 +1,14 @@
 //! A list of turns, laid out as a stream.
 
-ghost use Rattle.std.specs.Prelude.{◌≡◌, ℕ, ◌≤◌, ◌^◌, List, length, IfOk};
+ghost use Rattle.std.specs.Prelude.{◌≡◌, ℕ, ◌≤◌, List, length, IfOk};
 ghost use Rattle.std.specs.List.{AllByRecursion};
 ghost use Rattle.book_parts.specs.Limits.{AreProper};
+ghost use Rattle.book_parts.specs.declared.limits.TheConstants.{MOST_TURNS};
 ghost use Rattle.book_parts.specs.Proper.{IsProperTurn};
 ghost use Rattle.book_parts.specs.declared.turn.RawTurn.{RawTurn};
 ghost use Rattle.recipe_turn.specs.Checked.{raws};
 ghost use Rattle.elbow_graph.specs.Numbered.{IsNumbered};
+ghost use Rattle.recipe_book.specs.Checked.{most_states};
 ghost use Rattle.stream_time.specs.Numbered.{AreNumbered, count_of};
 ghost use Rattle.stream_time.specs.Laying.{IsLaidOut};
 
@@ -18,7 +20,7 @@ use std::alloc::Global;
 
 // The turn with this number, counted from 1.
 fn turn_at(turns: &[CheckedTurn], number: usize) -> &RawTurn
-    requires few { length turns.now ≤ 1024 }
+    requires few { length turns.now ≤ MOST_TURNS }
     requires numbered { (turn : RawTurn) × IsNumbered (raws turns.now) number turn }
     ensures turn { IsNumbered (raws turns.now) number result.now }
     ensures proper { (kinds : ℕ) × IsProperTurn kinds result.now }
@@ -30,8 +32,8 @@ fn turn_at(turns: &[CheckedTurn], number: usize) -> &RawTurn
 /// How many gliders the turns of a list have.
 pub fn count_gliders(turns: &[CheckedTurn], route: &[usize]) -> u64
     requires picked { (picked : List RawTurn) × AreNumbered (raws turns.now) route.now picked }
-    requires few { length turns.now ≤ 1024 }
-    requires short { length route.now ≤ 2 ^ 22 }
+    requires few { length turns.now ≤ MOST_TURNS }
+    requires short { length route.now ≤ most_states }
     ensures { (picked : List RawTurn) → AreNumbered (raws turns.now) route.now picked → result ≡ count_of picked }
 {
     let mut count = 0;
@@ -50,8 +52,8 @@ pub fn lay_out(
 ) -> Result<Layout, NoMemory>
     requires settings { AreProper settings.now }
     requires picked { (picked : List RawTurn) × AreNumbered (raws turns.now) route.now picked }
-    requires few { length turns.now ≤ 1024 }
-    requires short { length route.now ≤ 2 ^ 22 }
+    requires few { length turns.now ≤ MOST_TURNS }
+    requires short { length route.now ≤ most_states }
     ensures { IfOk result (λ layout. (picked : List RawTurn) → AreNumbered (raws turns.now) route.now picked → IsLaidOut settings.now picked layout) }
 {
     let mut layout = Layout {

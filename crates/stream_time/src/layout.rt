@@ -13,12 +13,10 @@ ghost use Rattle.stream_time.specs.Schedule.{advance_of};
 ghost use Rattle.stream_time.specs.Timing.{wait, longest_wait};
 ghost use Rattle.stream_time.specs.Laying.{IsShift, IsTime, IsPushed, latest_start, latest_end};
 
+use book_parts::limits::LEAST_GAP;
 use book_parts::{RawTurn, Settings, TurnEnd};
 use life_cells::{Cell, NoMemory};
 use life_gliders::{Track, glider_cells};
-
-/// The least gap between two gliders of a stream, in generations: so long a turn keeps the next one waiting where the elbow stays.
-const GAP: i64 = 20;
 
 /// A stream that is being laid out.
 #[derive(Drop)]
@@ -43,13 +41,13 @@ fn advance_of(end: TurnEnd) -> i64
     }
 }
 
-// How long after its end a turn keeps the next one waiting.
+// How long after its end a turn keeps the next one waiting: the least gap where the elbow stays.
 fn wait_after(end: TurnEnd) -> u64
     requires { IsCoordinate (advance_of end) }
     ensures wait { result ≡ wait end }
     ensures short { result ≤ longest_wait }
 {
-    let gap = GAP + 4 * advance_of(end);
+    let gap = LEAST_GAP + 4 * advance_of(end);
     if gap < 0 { 0 } else { gap as u64 }
 }
 

@@ -4,6 +4,7 @@ use Rattle.std.specs.List.{AllByRecursion, AllZip}
 use Rattle.std.proofs.Common.{refl, sym, ap, subst, ◌∙◌, arith, inl, inr, append_assoc}
 use Rattle.std.proofs.lemmas.List.{append-nil}
 use Rattle.std.proofs.lemmas.List.Sums.{sum_by-cons}
+use Rattle.life_plane.specs.ListLaws.{all_push}
 use Rattle.recipe_book.specs.Entries.{AreThose}
 use Rattle.recipe_book.specs.Accepting.{AddsVerdicts}
 use Rattle.recipe_book.specs.declared.verdict.Verdict.{Verdict}
@@ -20,10 +21,6 @@ pub record IsSoFar {A C : Type 0} (raw : C → A) (Sound : A → Type 0) (Kept :
   pub judged : (later : List Verdict) → AllZip Judges rest later → AllZip Judges all (added ++ later)
   pub least : before ≤ after
   pub most : (after + sum_by weight rest) ≤ (before + sum_by weight all)
-
-all_push : {A : Type 0} (P : A → Type 0) (xs : List A) (x : A) → AllByRecursion P xs → P x → AllByRecursion P (xs ++ (x ∷ []))
-all_push P [] x h p = (p, tt)
-all_push P (y ∷ ys) x h p = (h.0, all_push P ys x h.1 p)
 
 map_push : {A C : Type 0} (raw : C → A) (found : List C) (c : C) (later : List A) → map raw (found ++ (c ∷ [])) ++ later ≡ map raw found ++ (raw c ∷ later)
 map_push raw [] c later = refl
