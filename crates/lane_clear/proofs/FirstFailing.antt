@@ -8,8 +8,7 @@ use Rattle.life_plane.specs.Strips.{Each}
 use Rattle.life_plane.specs.NumberLaws.{lt_or_same}
 use Rattle.life_cells.specs.declared.cell.Cell.{Cell}
 use Rattle.life_cells.specs.Cells.{cell, Cells, in_order, alive, IsRising}
-use Rattle.life_cells.specs.Boxes.{IsInRange}
-use Rattle.life_cells.specs.BoxLaws.{IsCellInRange}
+use Rattle.life_cells.specs.Boxes.{IsInRange, IsCellInRange}
 use Rattle.life_cells.specs.Laws.{alive-in_order, place_of_listed}
 use Rattle.life_cells.specs.Listed.{same_cell, listed}
 use Rattle.life_cells.specs.OrderLaws.{same_cell-itself}

@@ -2,7 +2,7 @@
 use Rattle.std.specs.Prelude.{ℕ, ◌^◌, ℤ, pos, neg_ℤ, ◌+ℤ◌, ◌-ℤ◌}
 use Rattle.life_cells.specs.declared.cell.Cell.{Cell}
 use Rattle.life_cells.specs.declared.bounds.Bounds.{Bounds}
-use Rattle.life_cone.specs.FarBoxes.{IsBoxInRange}
+use Rattle.life_cells.specs.Boxes.{IsBoxInRange}
 use Rattle.book_parts.specs.Limits.{IsFrom}
 use Rattle.recipe_hit.specs.declared.frame.HitFrame.{HitFrame}
 

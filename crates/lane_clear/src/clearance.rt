@@ -2,9 +2,7 @@
 
 ghost use Rattle.std.specs.Prelude.{◌≡◌, ◌^◌, ◌-ℤ◌, IfOk, IfErr};
 ghost use Rattle.life_cells.specs.Cells.{alive};
-ghost use Rattle.life_cells.specs.Boxes.{IsInRange};
-ghost use Rattle.life_cells.specs.BoxLaws.{IsCellInRange};
-ghost use Rattle.life_cone.specs.FarBoxes.{IsBoxInRange};
+ghost use Rattle.life_cells.specs.Boxes.{IsInRange, IsCellInRange, IsBoxInRange};
 ghost use Rattle.book_parts.specs.Limits.{AreProper};
 ghost use Rattle.lane_clear.specs.Frames.{moved_frame, farthest, IsFrameInRange};
 ghost use Rattle.lane_clear.specs.Clear.{AreBeyond, IsClear};

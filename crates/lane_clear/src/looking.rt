@@ -3,10 +3,8 @@
 ghost use Rattle.std.specs.Prelude.{◌≡◌, ◌↔◌, ◌^◌, IsTrue, MatchOption};
 ghost use Rattle.life_plane.specs.Strips.{Each};
 ghost use Rattle.life_cells.specs.Cells.{alive};
-ghost use Rattle.life_cells.specs.Boxes.{IsInRange};
-ghost use Rattle.life_cells.specs.BoxLaws.{IsCellInRange};
+ghost use Rattle.life_cells.specs.Boxes.{IsInRange, IsCellInRange, IsBoxInRange};
 ghost use Rattle.life_cells.specs.Firsts.{IsFirstOf};
-ghost use Rattle.life_cone.specs.FarBoxes.{IsBoxInRange};
 ghost use Rattle.lane_clear.specs.Frames.{farthest, IsFrameInRange};
 ghost use Rattle.lane_clear.specs.Clear.{IsOffBounds, IsAside};
 ghost use Rattle.lane_clear.specs.Refusals.{Fails};

@@ -1,8 +1,7 @@
 //! Frames of hits at the hand's place.
 
 ghost use Rattle.std.specs.Prelude.{◌≡◌, ◌^◌};
-ghost use Rattle.life_cells.specs.BoxLaws.{IsCellInRange};
-ghost use Rattle.life_cone.specs.FarBoxes.{IsBoxInRange};
+ghost use Rattle.life_cells.specs.Boxes.{IsCellInRange, IsBoxInRange};
 ghost use Rattle.lane_clear.specs.Frames.{moved_bounds, moved_frame, farthest, IsFrameInRange};
 
 use life_cells::{Bounds, Cell};

@@ -2,8 +2,7 @@
 
 ghost use Rattle.std.specs.Prelude.{◌^◌, IfSome};
 ghost use Rattle.life_cells.specs.Cells.{alive};
-ghost use Rattle.life_cells.specs.Boxes.{IsInRange};
-ghost use Rattle.life_cells.specs.BoxLaws.{IsCellInRange};
+ghost use Rattle.life_cells.specs.Boxes.{IsInRange, IsCellInRange};
 ghost use Rattle.lane_clear.specs.Frames.{farthest, IsFrameInRange};
 
 use crate::books::checked;

@@ -2,8 +2,7 @@
 
 ghost use Rattle.std.specs.Prelude.{◌^◌};
 ghost use Rattle.life_cells.specs.Cells.{alive};
-ghost use Rattle.life_cells.specs.Boxes.{IsInRange};
-ghost use Rattle.life_cone.specs.FarBoxes.{IsBoxInRange};
+ghost use Rattle.life_cells.specs.Boxes.{IsInRange, IsBoxInRange};
 
 use crate::numbers::numbers_of;
 use life_cells::{Bounds, CellSet, NoMemory};

@@ -1,18 +1,20 @@
 -- The laws of boxes and of ranges of coordinates.
-use Rattle.std.specs.Prelude.{◌≡◌, true, ◌⊎◌, ℕ, zero, suc, ◌+◌, ◌<◌, ◌≤◌, ◌^◌, ℤ, pos, neg_ℤ, ◌≤ℤ◌, List}
+use Rattle.std.specs.Prelude.{◌≡◌, true, ◌⊎◌, ℕ, zero, suc, ◌+◌, ◌<◌, ◌≤◌, ◌^◌, ℤ, pos, neg_ℤ, ◌≤ℤ◌, List, Option}
 use Rattle.std.specs.List.{All}
-use Rattle.std.proofs.Common.{sym, ◌∙◌, subst, arith, inl, inr}
-use Rattle.std.proofs.lemmas.Int.{ints}
+use Rattle.std.proofs.Common.{sym, ap, ◌∙◌, subst, arith, inl, inr}
+use Rattle.std.proofs.lemmas.Int.{ints, clamps}
 use Rattle.std.proofs.lemmas.Option.{slice_get_within, get_or_from_slice_get}
-use Rattle.std.proofs.lemmas.Bool.{or_cases}
+use Rattle.std.proofs.lemmas.Bool.{or_cases, or_left, or_right}
 use Rattle.life_cells.specs.declared.bounds.Bounds.{Bounds}
 use Rattle.life_cells.specs.declared.cell.Cell.{Cell}
 use Rattle.life_cells.specs.Cells.{cell, Cells, alive, in_order, from_list}
 use Rattle.life_cells.specs.Laws.{alive-from_list_at, place_of_listed, alive_of_order}
 use Rattle.life_cells.specs.Listed.{listed}
-use Rattle.life_cells.specs.Boxes.{IsInRange, IsLeastBox, CanMove}
-use Rattle.life_plane.specs.Plane.{Plane, step, run, union}
-use Rattle.life_plane.specs.Apart.{Live, Dead, live_or_dead, dead_step}
+use Rattle.life_cells.specs.Boxes.{IsInRange, IsCellInRange, IsLeastBox, IsBoxOf, CanMove, box_of_both}
+use Rattle.life_plane.specs.Plane.{Plane, step, run, union, nothing}
+use Rattle.life_plane.specs.PlaneLaws.{union_none}
+use Rattle.life_plane.specs.Apart.{Live, Dead}
+use Rattle.life_plane.specs.ApartLaws.{live_or_dead, dead_step}
 
 -- ---- ranges
 
@@ -71,13 +73,6 @@ each_alive P cs all x y l =
     let there = place_of_listed cs x y (sym (alive-from_list_at cs x y) ∙ l) in
     subst P (get_or_from_slice_get cs there.0 (cell x y) (cell x y) there.1) (all there.0 (cell x y) (slice_get_within cs there.0 (cell x y) there.1))
 
--- the cell has coordinates from -n to n
-pub record IsCellInRange (n : ℕ) (c : Cell) : Type 0 where
-  pub x_low : neg_ℤ (pos n) ≤ℤ c.x
-  pub x_high : c.x ≤ℤ pos n
-  pub y_low : neg_ℤ (pos n) ≤ℤ c.y
-  pub y_high : c.y ≤ℤ pos n
-
 pub range_from_list : (n : ℕ) (cs : List Cell) → All (IsCellInRange n) cs → IsInRange n (alive (from_list cs))
 range_from_list n cs all = record {
   x_low = λ x y l. (each_alive (IsCellInRange n) cs all x y l).x_low;
@@ -97,3 +92,23 @@ one_least_box s a b h k =
     let ab = h.least b k.holds in
     let ba = k.least a h.holds in
     λ i. record { left = level a.left b.left ba.left ab.left i; top = level a.top b.top ba.top ab.top i; right = level a.right b.right ab.right ba.right i; bottom = level a.bottom b.bottom ab.bottom ba.bottom i }
+
+-- the least box about two planes
+pub least_of_both : (a b : Bounds) (s t : Plane) → IsLeastBox a s → IsLeastBox b t → IsLeastBox (box_of_both a b) (union s t)
+least_of_both a b s t f g = record {
+  holds = record {
+    each = λ x y l. elim (or_cases (s x y) (t x y) l) [
+      | inl k ↦ let i = f.holds.each x y k in record { right_of_left = omega (arith, ints, clamps, i.right_of_left); below_top = omega (arith, ints, clamps, i.below_top); left_of_right = omega (arith, ints, clamps, i.left_of_right); above_bottom = omega (arith, ints, clamps, i.above_bottom) }
+      | inr k ↦ let i = g.holds.each x y k in record { right_of_left = omega (arith, ints, clamps, i.right_of_left); below_top = omega (arith, ints, clamps, i.below_top); left_of_right = omega (arith, ints, clamps, i.left_of_right); above_bottom = omega (arith, ints, clamps, i.above_bottom) }
+    ];
+  };
+  least = λ other k.
+      let v = f.least other (record { each = λ x y l. k.each x y (or_left (s x y) (t x y) l) }) in
+      let w = g.least other (record { each = λ x y l. k.each x y (or_right (s x y) (t x y) l) }) in
+      record { left = omega (arith, ints, clamps, v.left, w.left); top = omega (arith, ints, clamps, v.top, w.top); right = omega (arith, ints, clamps, v.right, w.right); bottom = omega (arith, ints, clamps, v.bottom, w.bottom) };
+  lives = (f.lives.0, (f.lives.1.0, or_left (s f.lives.0 f.lives.1.0) (t f.lives.0 f.lives.1.0) f.lives.1.1));
+}
+
+-- with nothing more the box stays
+pub box_stays : (found : Option Bounds) (s t : Plane) → t ≡ nothing → IsBoxOf found s → IsBoxOf found (union s t)
+box_stays found s t e h = subst (IsBoxOf found) (sym (ap (union s) e ∙ union_none s)) h

@@ -1,7 +1,7 @@
 //! Boxes of cells.
 
 ghost use Rattle.std.specs.Prelude.{◌≡◌};
-ghost use Rattle.std.specs.Int.{int_min, int_max};
+ghost use Rattle.life_cells.specs.Boxes.{box_of_both};
 
 use crate::cell::Cell;
 
@@ -20,7 +20,7 @@ pub struct Bounds {
 
 impl Bounds {
     /// The box of one cell.
-    pub(crate) fn at(cell: Cell) -> Self
+    pub fn at(cell: Cell) -> Self
         ensures { result ≡ record { left = cell.x; top = cell.y; right = cell.x; bottom = cell.y } }
     {
         Bounds {
@@ -33,19 +33,20 @@ impl Bounds {
 
     /// The least box that holds this one and the cell.
     pub(crate) fn with(self, cell: Cell) -> Self
-        ensures { result
-            ≡ record {
-              left = int_min self.left cell.x;
-              top = int_min self.top cell.y;
-              right = int_max self.right cell.x;
-              bottom = int_max self.bottom cell.y;
-            } }
+        ensures { result ≡ box_of_both self (record { left = cell.x; top = cell.y; right = cell.x; bottom = cell.y }) }
+    {
+        self.joined(Bounds::at(cell))
+    }
+
+    /// The least box that holds this one and the other.
+    pub fn joined(self, other: Bounds) -> Self
+        ensures { result ≡ box_of_both self other }
     {
         Bounds {
-            left: self.left.min(cell.x),
-            top: self.top.min(cell.y),
-            right: self.right.max(cell.x),
-            bottom: self.bottom.max(cell.y),
+            left: self.left.min(other.left),
+            top: self.top.min(other.top),
+            right: self.right.max(other.right),
+            bottom: self.bottom.max(other.bottom),
         }
     }
 }

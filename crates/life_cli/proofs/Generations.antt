@@ -1,7 +1,7 @@
 -- Generations of a pattern that is replayed.
 use Rattle.std.proofs.Common.{◌≡◌, ℕ, suc, ◌+◌, ◌-◌, ◌<◌, ◌≤◌, ◌^◌, sym, ap, subst, ◌∙◌, arith, Result, Ok, Err, IfOk}
 use Rattle.life_plane.specs.Plane.{Plane, step, run}
-use Rattle.life_plane.specs.Evolve.{run-add, still_run}
+use Rattle.life_plane.specs.EvolveLaws.{run-add, still_run}
 use Rattle.life_cells.specs.Cells.{Cells, alive}
 use Rattle.life_cells.specs.Boxes.{IsInRange}
 use Rattle.life_cells.specs.BoxLaws.{range_wider, range_run}

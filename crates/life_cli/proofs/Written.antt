@@ -20,8 +20,8 @@ use Rattle.elbow_graph.specs.Goals.{IsLeastRoute}
 use Rattle.elbow_graph.specs.States.{HasStates}
 use Rattle.recipe_book.specs.Checked.{CheckedEntries, IsCheckedBook, most_states}
 use Rattle.recipe_book.specs.Entries.{AreTheSound}
-use Rattle.stream_time.specs.Schedule.{Timed}
-use Rattle.stream_time.specs.Pattern.{pattern, last_end}
+use Rattle.event_times.specs.Schedule.{Timed}
+use Rattle.event_times.specs.Pattern.{pattern, last_end}
 use Rattle.stream_time.specs.Numbered.{AreNumbered, count_of}
 use Rattle.stream_time.specs.NumberedLaws.{picked_once}
 use Rattle.stream_time.specs.Built as plan

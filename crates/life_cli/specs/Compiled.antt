@@ -11,8 +11,8 @@ use Rattle.life_target.specs.Targets.{IsTarget, TargetIsRefused}
 use Rattle.life_target.specs.declared.refusal.TargetError as target
 use Rattle.book_parts.specs.declared.turn.RawTurn.{RawTurn}
 use Rattle.book_text.specs.Book.{Said}
-use Rattle.stream_time.specs.Schedule.{Timed}
-use Rattle.stream_time.specs.Pattern.{pattern, last_end}
+use Rattle.event_times.specs.Schedule.{Timed}
+use Rattle.event_times.specs.Pattern.{pattern, last_end}
 use Rattle.stream_time.specs.Numbered.{AreNumbered, count_of}
 use Rattle.stream_time.specs.Built.{most_gliders, ClosesStart, IsClosing, IsLeastStream, BuildingIsRefused, IsLong}
 use Rattle.stream_time.specs.declared.building.PlanError.TheVariants as stop

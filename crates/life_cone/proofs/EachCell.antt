@@ -6,8 +6,7 @@ use Rattle.std.proofs.lemmas.List.Folds.{list_any_more}
 use Rattle.std.proofs.lemmas.Bool.{or_cases}
 use Rattle.life_cells.specs.declared.cell.Cell.{Cell}
 use Rattle.life_cells.specs.Cells.{cell, Cells, in_order, alive}
-use Rattle.life_cells.specs.Boxes.{IsInRange}
-use Rattle.life_cells.specs.BoxLaws.{IsCellInRange}
+use Rattle.life_cells.specs.Boxes.{IsInRange, IsCellInRange}
 use Rattle.life_cells.specs.Laws.{alive_of_order}
 use Rattle.life_cells.specs.PlaceLaws.{live_at}
 use Rattle.life_cells.specs.Listed.{same_cell, listed}

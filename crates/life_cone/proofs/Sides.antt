@@ -3,7 +3,8 @@ use Rattle.std.proofs.Common.{◌≡◌, ◌↔◌, IsTrue, Bool, true, ℤ, pos
 use Rattle.std.proofs.lemmas.Int.{ints}
 use Rattle.life_plane.specs.Plane.{Plane}
 use Rattle.life_plane.specs.Apart.{Apart}
-use Rattle.life_plane.specs.Strips.{Each, UAtMost, UAtLeast, apart_by_u}
+use Rattle.life_plane.specs.Strips.{Each, UAtMost, UAtLeast}
+use Rattle.life_plane.specs.StripLaws.{apart_by_u}
 use Rattle.life_cone.specs.Sides.{IsInStrip, IsBesideStrip, AreSplit}
 
 -- the tests of both sides

@@ -9,17 +9,6 @@ use Rattle.life_cone.specs.declared.boxes.Span.{Span}
 pub record AreFarBoxes (a b : Bounds) : Type 0 where
   pub far : (x y p q : ℤ) → InBox a x y → InBox b p q → Within (pos 2) x y p q → ⊥
 
--- each side is from -n to n
-pub record IsBoxInRange (n : ℕ) (box : Bounds) : Type 0 where
-  pub left_low : neg_ℤ (pos n) ≤ℤ box.left
-  pub left_high : box.left ≤ℤ pos n
-  pub top_low : neg_ℤ (pos n) ≤ℤ box.top
-  pub top_high : box.top ≤ℤ pos n
-  pub right_low : neg_ℤ (pos n) ≤ℤ box.right
-  pub right_high : box.right ≤ℤ pos n
-  pub bottom_low : neg_ℤ (pos n) ≤ℤ box.bottom
-  pub bottom_high : box.bottom ≤ℤ pos n
-
 -- the number is in the span, both ends within
 pub record InSpan (span : Span) (x : ℤ) : Type 0 where
   pub from : span.low ≤ℤ x

@@ -3,8 +3,8 @@
 ghost use Rattle.std.specs.Prelude.{◌≡◌, ◌↔◌, ◌^◌, ◌≤ℤ◌, ◌<ℤ◌, ◌+ℤ◌, pos, IsTrue};
 ghost use Rattle.life_plane.specs.Plane.{Plane};
 ghost use Rattle.life_plane.specs.Apart.{Apart};
-ghost use Rattle.life_cells.specs.Boxes.{Holds};
-ghost use Rattle.life_cone.specs.FarBoxes.{AreFarBoxes, AreFarSpans, IsBoxInRange, IsSpanInRange};
+ghost use Rattle.life_cells.specs.Boxes.{Holds, IsBoxInRange};
+ghost use Rattle.life_cone.specs.FarBoxes.{AreFarBoxes, AreFarSpans, IsSpanInRange};
 
 use life_cells::Bounds;
 

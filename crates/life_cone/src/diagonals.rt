@@ -5,8 +5,7 @@ ghost use Rattle.life_plane.specs.Plane.{Plane};
 ghost use Rattle.life_plane.specs.Apart.{Apart};
 ghost use Rattle.life_plane.specs.Strips.{Each, UAtMost, UAtLeast};
 ghost use Rattle.life_cells.specs.Cells.{alive};
-ghost use Rattle.life_cells.specs.Boxes.{IsInRange};
-ghost use Rattle.life_cells.specs.BoxLaws.{IsCellInRange};
+ghost use Rattle.life_cells.specs.Boxes.{IsInRange, IsCellInRange};
 ghost use Rattle.life_cone.specs.Sides.{IsInStrip, IsBesideStrip, AreSplit};
 
 use life_cells::{Cell, CellSet};

@@ -6,8 +6,7 @@ use Rattle.std.proofs.lemmas.Option.{slice_get_within, slice_get-get_or}
 use Rattle.life_plane.specs.Plane.{Plane}
 use Rattle.life_cells.specs.declared.cell.Cell.{Cell}
 use Rattle.life_cells.specs.Cells.{cell, cell_cmp, IsRising, Cells, alive, in_order}
-use Rattle.life_cells.specs.Boxes.{IsInRange}
-use Rattle.life_cells.specs.BoxLaws.{IsCellInRange}
+use Rattle.life_cells.specs.Boxes.{IsInRange, IsCellInRange}
 use Rattle.life_cells.specs.Listed.{listed}
 use Rattle.life_cells.specs.FirstLaws as first
 use Rattle.life_cells.specs.PlaceLaws as places

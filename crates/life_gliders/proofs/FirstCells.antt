@@ -8,9 +8,12 @@ use Rattle.std.proofs.lemmas.Int.{ints}
 use Rattle.std.proofs.lemmas.Bool.{or_cases, and_parts}
 use Rattle.life_plane.specs.NumberLaws.{le_from_test, lt_from_test}
 use Rattle.life_plane.specs.Plane.{Plane, nothing}
-use Rattle.life_plane.specs.Finite.{plane_of, each_cell, each_live}
-use Rattle.life_plane.specs.Tracks.{stream_glider, stream_glider_at, quartered, Quartered, phase}
-use Rattle.life_plane.specs.Salvo.{salvo_glider, salvo_front}
+use Rattle.life_plane.specs.Finite.{plane_of, each_cell}
+use Rattle.life_plane.specs.FiniteLaws.{each_live}
+use Rattle.life_plane.specs.Tracks.{stream_glider, phase}
+use Rattle.life_plane.specs.TrackLaws.{stream_glider_at, quartered, Quartered}
+use Rattle.life_plane.specs.Salvo.{salvo_glider}
+use Rattle.life_plane.specs.SalvoLaws.{salvo_front}
 use Rattle.life_cells.specs.declared.cell.Cell.{Cell}
 use Rattle.life_cells.specs.Cells.{cell, cell_cmp}
 use Rattle.life_cells.specs.OrderLaws.{before_by_row, before_in_row}

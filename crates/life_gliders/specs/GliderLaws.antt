@@ -4,8 +4,10 @@ use Rattle.std.proofs.Common.{refl, sym, ap, ◌∙◌, inl, inr, arith}
 use Rattle.std.proofs.lemmas.Int.{ints}
 use Rattle.life_plane.specs.Plane.{Plane}
 use Rattle.life_plane.specs.Finite.{plane_of}
-use Rattle.life_plane.specs.Tracks.{stream_glider, stream_glider_at, quartered, phase, stream_range, stream_front, stream_left}
-use Rattle.life_plane.specs.Salvo.{salvo_glider, salvo_range, salvo_front, salvo_left}
+use Rattle.life_plane.specs.Tracks.{stream_glider, phase}
+use Rattle.life_plane.specs.TrackLaws.{stream_glider_at, quartered, stream_range, stream_front, stream_left}
+use Rattle.life_plane.specs.Salvo.{salvo_glider}
+use Rattle.life_plane.specs.SalvoLaws.{salvo_range, salvo_front, salvo_left}
 
 -- ---- the stream
 

@@ -3,8 +3,7 @@
 ghost use Rattle.std.specs.Prelude.{◌≡◌, ◌↔◌, ◌^◌, ◌≤ℤ◌, ◌+ℤ◌, ◌-ℤ◌, pos, neg_ℤ, int_le, IfSome, IfNone, IsTrue};
 ghost use Rattle.life_plane.specs.Plane.{nothing};
 ghost use Rattle.life_cells.specs.Cells.{alive};
-ghost use Rattle.life_cells.specs.Boxes.{IsInRange};
-ghost use Rattle.life_cells.specs.BoxLaws.{IsCellInRange};
+ghost use Rattle.life_cells.specs.Boxes.{IsInRange, IsCellInRange};
 ghost use Rattle.life_cells.specs.Listed.{listed};
 ghost use Rattle.life_gliders.specs.Beyond.{beyond, IsFirstLive, IsPartOf};
 

@@ -3,8 +3,7 @@
 ghost use Rattle.std.specs.Prelude.{◌≡◌, ◌↔◌, ◌<◌, ◌^◌, ◌≤ℤ◌, ℤ, pos, neg_ℤ, IfSome, IfNone, IsTrue};
 ghost use Rattle.life_plane.specs.Salvo.{salvo_glider};
 ghost use Rattle.life_cells.specs.Cells.{alive};
-ghost use Rattle.life_cells.specs.Boxes.{IsInRange};
-ghost use Rattle.life_cells.specs.BoxLaws.{IsCellInRange};
+ghost use Rattle.life_cells.specs.Boxes.{IsInRange, IsCellInRange};
 ghost use Rattle.life_gliders.specs.Beyond.{beyond};
 ghost use Rattle.life_gliders.specs.Listing.{cell_at_rest};
 ghost use Rattle.life_gliders.specs.Starts.{first_of_phase, StartsAt};

@@ -5,8 +5,7 @@ use Rattle.std.specs.Int.{int_min}
 use Rattle.std.specs.declared.cmp.Ordering.TheVariants.{Less}
 use Rattle.std.specs.Ordering.{is_lt, ord_min}
 use Rattle.std.proofs.lemmas.Int.{ints, clamps, to_z-of_z}
-use Rattle.life_cells.specs.Boxes.{IsInRange}
-use Rattle.life_cells.specs.BoxLaws.{IsCellInRange}
+use Rattle.life_cells.specs.Boxes.{IsInRange, IsCellInRange}
 use Rattle.life_cells.specs.Cells.{cell, cell_cmp}
 use Rattle.life_cells.specs.Listed.{listed}
 use Rattle.std.proofs.lemmas.List.{take_more, take_all}

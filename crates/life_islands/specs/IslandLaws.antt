@@ -17,7 +17,8 @@ use Rattle.life_cells.specs.Firsts.{IsFirstLive}
 use Rattle.life_islands.specs.Order.{ComesBefore, AreInOrder}
 use Rattle.life_islands.specs.OrderLaws.{one_first_cell, one_comes_before, not_before_itself}
 use Rattle.life_plane.specs.Plane.{Plane, step, union, IsStill, same_plane}
-use Rattle.life_plane.specs.Apart.{Apart, Within, step_union}
+use Rattle.life_plane.specs.Apart.{Apart, Within}
+use Rattle.life_plane.specs.ApartLaws.{step_union}
 
 -- ---- tests
 

@@ -1,8 +1,7 @@
 //! By what islands are put in order.
 
 ghost use Rattle.std.specs.Prelude.{◌≡◌, ◌^◌, ◌∷◌, [], ◌++◌, List, pos, neg_ℤ, ◌≤ℤ◌};
-ghost use Rattle.life_cells.specs.Boxes.{IsInRange};
-ghost use Rattle.life_cells.specs.BoxLaws.{IsCellInRange};
+ghost use Rattle.life_cells.specs.Boxes.{IsInRange, IsCellInRange};
 ghost use Rattle.life_cells.specs.Listed.{listed};
 ghost use Rattle.life_cells.specs.declared.cell.Cell.{Cell};
 ghost use Rattle.life_islands.specs.Ranks.{IsRankOf};

@@ -7,8 +7,9 @@ use Rattle.std.proofs.lemmas.Bool.{and_parts}
 use Rattle.life_plane.specs.NumberLaws.{le_from_test, test_from_le}
 use Rattle.life_plane.specs.Plane.{Plane, run, union}
 use Rattle.life_plane.specs.Apart.{Apart, Within}
-use Rattle.life_plane.specs.Evolve.{run-add}
-use Rattle.life_plane.specs.Salvo.{salvo_glider, salvo_range, OnLane, salvo_front}
+use Rattle.life_plane.specs.EvolveLaws.{run-add}
+use Rattle.life_plane.specs.Salvo.{salvo_glider, OnLane}
+use Rattle.life_plane.specs.SalvoLaws.{salvo_range, salvo_front}
 use Rattle.life_plane.specs.Strips.{Each}
 use Rattle.life_scene.specs.Turns.{Rules, beyond}
 use Rattle.life_scene.specs.HandSide.{flight, struck, Subset, Strikes, Passes}

@@ -6,9 +6,11 @@ use Rattle.std.proofs.lemmas.Bool.{lt-ltb, le-ltb, cases_lt}
 use Rattle.std.proofs.Math.Bool.{or_assoc}
 use Rattle.life_plane.specs.PlaneLaws.{union_assoc, union_none}
 use Rattle.life_plane.specs.Plane.{Plane, step, run, union, nothing, same_plane}
-use Rattle.life_plane.specs.Apart.{Apart, step_union}
-use Rattle.life_plane.specs.Salvo.{salvo_glider, step_salvo}
-use Rattle.life_plane.specs.Strips.{apart_symmetric, apart_union, apart_nothing}
+use Rattle.life_plane.specs.Apart.{Apart}
+use Rattle.life_plane.specs.ApartLaws.{step_union}
+use Rattle.life_plane.specs.Salvo.{salvo_glider}
+use Rattle.life_plane.specs.SalvoLaws.{step_salvo}
+use Rattle.life_plane.specs.StripLaws.{apart_symmetric, apart_union, apart_nothing}
 use Rattle.life_scene.specs.StreamLaws.{run_nothing}
 use Rattle.life_scene.specs.HandSide.{Hit, flight, Subset, Rests, struck, Strikes, Passes, AllHits, StrikesInTurn, flights, released, hand_scene}
 

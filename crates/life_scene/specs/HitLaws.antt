@@ -6,8 +6,10 @@ use Rattle.std.proofs.lemmas.Int.{ints, clamps}
 use Rattle.std.proofs.lemmas.Bool.{cases_lt, or_left}
 use Rattle.std.proofs.Math.Bool.{or-false, or-true}
 use Rattle.life_plane.specs.Plane.{Plane, step, run, union, IsStill}
-use Rattle.life_plane.specs.Apart.{Apart, Within, step_union}
-use Rattle.life_plane.specs.Salvo.{salvo_glider, step_salvo, salvo_corner, SalvoCornered, salvo_left}
+use Rattle.life_plane.specs.Apart.{Apart, Within}
+use Rattle.life_plane.specs.ApartLaws.{step_union}
+use Rattle.life_plane.specs.Salvo.{salvo_glider, SalvoCornered}
+use Rattle.life_plane.specs.SalvoLaws.{step_salvo, salvo_corner, salvo_left}
 use Rattle.life_plane.specs.Strips.{Each}
 use Rattle.life_scene.specs.Hits.{Box, InBox, last_index_before, hit_start, IsHit}
 

@@ -5,9 +5,11 @@ use Rattle.std.proofs.lemmas.Int.{ints}
 use Rattle.std.proofs.lemmas.Bool.{or_cases}
 use Rattle.life_plane.specs.Plane.{Plane, step, run, union, shift, nothing}
 use Rattle.life_plane.specs.Apart.{Apart}
-use Rattle.life_plane.specs.Evolve.{run_union}
-use Rattle.life_plane.specs.Tracks.{gap, stream_glider, run_stream, stream_moved, stream_range}
-use Rattle.life_plane.specs.Strips.{Each, apart_symmetric}
+use Rattle.life_plane.specs.EvolveLaws.{run_union}
+use Rattle.life_plane.specs.Tracks.{gap, stream_glider}
+use Rattle.life_plane.specs.TrackLaws.{run_stream, stream_moved, stream_range}
+use Rattle.life_plane.specs.Strips.{Each}
+use Rattle.life_plane.specs.StripLaws.{apart_symmetric}
 use Rattle.life_scene.specs.Stream.{coming, Spaced, Before}
 
 -- cells whose v is at most half of this, and at least half of this

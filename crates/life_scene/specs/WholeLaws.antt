@@ -6,9 +6,11 @@ use Rattle.std.proofs.lemmas.Bool.{lt-ltb, le-ltb, cases_lt, or_cases}
 use Rattle.std.proofs.Math.Bool.{or-true}
 use Rattle.life_plane.specs.PlaneLaws.{union_assoc, union_none, union_swap}
 use Rattle.life_plane.specs.Plane.{Plane, step, run, union, shift, nothing}
-use Rattle.life_plane.specs.Apart.{Apart, step_union}
-use Rattle.life_plane.specs.Evolve.{run_shift}
-use Rattle.life_plane.specs.Strips.{Each, UAtMost, apart_by_u, apart_symmetric, apart_union, apart_nothing}
+use Rattle.life_plane.specs.Apart.{Apart}
+use Rattle.life_plane.specs.ApartLaws.{step_union}
+use Rattle.life_plane.specs.EvolveLaws.{run_shift}
+use Rattle.life_plane.specs.Strips.{Each, UAtMost}
+use Rattle.life_plane.specs.StripLaws.{apart_by_u, apart_symmetric, apart_union, apart_nothing}
 use Rattle.life_scene.specs.Turns.{Rules, Throw, reaction, Timed, end, next_due, later, flying_from, flying, scene, Follows}
 use Rattle.life_scene.specs.Turns.Throw.{Keeps, Throws}
 use Rattle.life_scene.specs.ElbowLaws.{elbow_side, scene_after, flight_apart, later_narrow}

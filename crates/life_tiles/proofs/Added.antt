@@ -8,7 +8,7 @@ use Rattle.std.proofs.Common.{get_or-set_other}
 use Rattle.std.proofs.lemmas.Nat.Bits.{bit_at_set_same, bit_at_set_other}
 use Rattle.std.proofs.lemmas.Option.{slice_get_within}
 use lib.Bits.{bit_or}
-use Rattle.life_cells.specs.BoxLaws.{IsCellInRange}
+use Rattle.life_cells.specs.Boxes.{IsCellInRange, IsInRange}
 use Rattle.life_cells.specs.declared.cell.Cell.{Cell}
 use Rattle.life_cells.specs.Cells.{cell}
 use Rattle.life_cells.specs.Listed.{same_cell, listed}
@@ -20,7 +20,6 @@ use Rattle.life_kernel.specs.Words.{part, offset, plane_of_words}
 use Rattle.life_kernel.specs.WordLaws.{part_and_offset, offset_below}
 use Rattle.life_plane.specs.Plane.{Plane, nothing, union, same_plane}
 use Rattle.life_tiles.specs.declared.tile_map.TileMap.{TileMap}
-use Rattle.life_cells.specs.Boxes.{IsInRange}
 use Rattle.life_cells.specs.Laws.{listed_at_place}
 use Rattle.std.proofs.Common.{take}
 use Rattle.std.proofs.lemmas.List.Folds.{list_any_more}

@@ -1,49 +1,24 @@
 -- The least box about live cells.
 use Rattle.std.proofs.Common.{◌≡◌, ℕ, zero, suc, ◌+◌, ◌*◌, ◌/◌, ◌%◌, ◌^◌, ◌<◌, ◌≤◌, ◌==◌, Bool, true, false, ℤ, pos, ◌+ℤ◌, ◌*ℤ◌, List, ◌++◌, Option, w64, refl, sym, ap, subst, ◌∙◌, arith, inl, inr}
-use Rattle.std.specs.Int.{bit_at, int_min, int_max, trailing_zeros, leading_zeros}
+use Rattle.std.specs.Int.{bit_at, trailing_zeros, leading_zeros}
 use Rattle.std.proofs.lemmas.Bool.{cases_lt}
-use Rattle.std.proofs.lemmas.Int.{ints, clamps, to_z-of_z}
-use Rattle.std.proofs.Common.{FitsSigned, to_z, of_z}
+use Rattle.std.proofs.lemmas.Int.{ints}
 use Rattle.std.proofs.lemmas.Nat.{leading_top, pow_pos}
 use Rattle.std.proofs.lemmas.Nat.Bits.{bit_at-trailing_zeros, bit_at_above, bit_at-zero}
 use Rattle.std.proofs.Math.Nat.{div-lt_iff_lt-mul, lt-div-mul-add}
-use Rattle.life_cells.specs.Boxes.{IsLeastBox}
+use Rattle.life_cells.specs.Boxes.{IsLeastBox, IsBoxOf}
 use Rattle.life_cells.specs.declared.bounds.Bounds.{Bounds}
 use Rattle.life_cells.specs.declared.cell.Cell.{Cell}
 use Rattle.life_cells.specs.Laws.{listed-append}
 use Rattle.life_cells.specs.Listed.{listed}
 use Rattle.life_kernel.specs.Rows.{test}
 use Rattle.life_plane.specs.Plane.{Plane, nothing, union, same_plane}
-use Rattle.std.proofs.lemmas.Bool.{or_cases, or_left, or_right}
 use Rattle.std.proofs.Math.Bool.{or_assoc}
-use Rattle.life_plane.specs.PlaneLaws.{union_none}
 use Rattle.life_tiles.specs.declared.place.Place.{Place}
-use Rattle.life_tiles.specs.Tiling.{IsBoxOf, word_cells}
+use Rattle.life_tiles.specs.Tiling.{word_cells}
 use Rattle.life_tiles.proofs.Lists.{in_word, from_word}
 
 -- ---- boxes
-
--- the least box that holds two
-abbrev pub both_boxes : Bounds → Bounds → Bounds
-both_boxes a b = record { left = int_min a.left b.left; top = int_min a.top b.top; right = int_max a.right b.right; bottom = int_max a.bottom b.bottom }
-
-pub least_of_both : (a b : Bounds) (s t : Plane) → IsLeastBox a s → IsLeastBox b t → IsLeastBox (both_boxes a b) (union s t)
-least_of_both a b s t f g = record {
-  holds = record {
-    each = λ x y l. elim (or_cases (s x y) (t x y) l) [
-      | inl k ↦ let i = f.holds.each x y k in record { right_of_left = omega (arith, ints, clamps, i.right_of_left); below_top = omega (arith, ints, clamps, i.below_top); left_of_right = omega (arith, ints, clamps, i.left_of_right); above_bottom = omega (arith, ints, clamps, i.above_bottom) }
-      | inr k ↦ let i = g.holds.each x y k in record { right_of_left = omega (arith, ints, clamps, i.right_of_left); below_top = omega (arith, ints, clamps, i.below_top); left_of_right = omega (arith, ints, clamps, i.left_of_right); above_bottom = omega (arith, ints, clamps, i.above_bottom) }
-    ];
-  };
-  least = λ other k.
-      let v = f.least other (record { each = λ x y l. k.each x y (or_left (s x y) (t x y) l) }) in
-      let w = g.least other (record { each = λ x y l. k.each x y (or_right (s x y) (t x y) l) }) in
-      record { left = omega (arith, ints, clamps, v.left, w.left); top = omega (arith, ints, clamps, v.top, w.top); right = omega (arith, ints, clamps, v.right, w.right); bottom = omega (arith, ints, clamps, v.bottom, w.bottom) };
-  lives = (f.lives.0, (f.lives.1.0, or_left (s f.lives.0 f.lives.1.0) (t f.lives.0 f.lives.1.0) f.lives.1.1));
-}
-
-pub box_stays : (found : Option Bounds) (s t : Plane) → t ≡ nothing → IsBoxOf found s → IsBoxOf found (union s t)
-box_stays found s t e h = subst (IsBoxOf found) (sym (ap (union s) e ∙ union_none s)) h
 
 pub box_first : (box : Bounds) (s t : Plane) → s ≡ nothing → IsLeastBox box t → IsLeastBox box (union s t)
 box_first box s t e h = subst (λ (r : Plane). IsLeastBox box (union r t)) (sym e) h
@@ -51,13 +26,6 @@ box_first box s t e h = subst (λ (r : Plane). IsLeastBox box (union r t)) (sym 
 -- two lists one after the other
 pub box_appended : (found : Option Bounds) (s : Plane) (cs ds : List Cell) → IsBoxOf found (union (union s (listed cs)) (listed ds)) → IsBoxOf found (union s (listed (cs ++ ds)))
 box_appended found s cs ds h = subst (IsBoxOf found) (same_plane _ _ (λ x y. or_assoc (s x y) (listed cs x y) (listed ds x y)) ∙ ap (union s) (sym (listed-append cs ds))) h
-
--- the lesser and the greater of two numbers of 64 bits
-pub min_is : (a b r : ℤ) → FitsSigned w64 a → FitsSigned w64 b → FitsSigned w64 r → r ≡ int_min (to_z w64 (of_z w64 a)) (to_z w64 (of_z w64 b)) → to_z w64 (of_z w64 r) ≡ int_min a b
-min_is a b r fa fb fr e = to_z-of_z w64 r fr ∙ e ∙ (λ i. int_min (to_z-of_z w64 a fa i) (to_z-of_z w64 b fb i))
-
-pub max_is : (a b r : ℤ) → FitsSigned w64 a → FitsSigned w64 b → FitsSigned w64 r → r ≡ int_max (to_z w64 (of_z w64 a)) (to_z w64 (of_z w64 b)) → to_z w64 (of_z w64 r) ≡ int_max a b
-max_is a b r fa fb fr e = to_z-of_z w64 r fr ∙ e ∙ (λ i. int_max (to_z-of_z w64 a fa i) (to_z-of_z w64 b fb i))
 
 -- ---- one word
 

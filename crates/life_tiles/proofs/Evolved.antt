@@ -2,7 +2,7 @@
 use Rattle.std.proofs.Common.{◌≡◌, ◌≢◌, Bool, true, false, List, Option, Some, None, Ok, Err, sym, ap, subst, ◌∙◌}
 use Rattle.std.specs.Prelude.{IfSome, IfNone, Result, OnErr}
 use Rattle.std.specs.Bool.{MatchBool}
-use Rattle.life_cells.specs.Boxes.{IsLeastBox}
+use Rattle.life_cells.specs.Boxes.{IsLeastBox, IsBoxOf}
 use Rattle.life_cells.specs.declared.bounds.Bounds.{Bounds}
 use Rattle.life_cells.specs.declared.cell.Cell.{Cell}
 use Rattle.life_cells.specs.Cells.{Cells, alive, empty, in_order}
@@ -11,7 +11,7 @@ use Rattle.life_cells.specs.Listed.{listed}
 use Rattle.life_kernel.specs.Words.{plane_of_words, AreNextWords}
 use Rattle.life_plane.specs.Plane.{Plane, step}
 use Rattle.life_tiles.specs.declared.tile_map.TileMap.{TileMap}
-use Rattle.life_tiles.specs.Tiling.{IsTiled, IsClosed, IsStepped, IsRecent, IsBoxOf, OnlyMakes, word_at, words_of, cells_of, set_of}
+use Rattle.life_tiles.specs.Tiling.{IsTiled, IsClosed, IsStepped, IsRecent, OnlyMakes, word_at, words_of, cells_of, set_of}
 use Rattle.life_tiles.proofs.Lists.{alive-set_of, same_sets}
 use Rattle.life_tiles.proofs.Stepped.{next_words, next_plane, closed_along}
 

@@ -12,7 +12,8 @@ use Rattle.life_kernel.specs.declared.row.Row.{Row}
 use Rattle.life_kernel.specs.Rows.{test}
 use Rattle.life_kernel.specs.Words.{Words, part, offset, plane_of_words, row_of_words, IsNextWord, AreNextWords}
 use Rattle.life_kernel.specs.WordLaws.{part_is, part_and_offset, offset_below, cell_of_word, next_bit_is_step, next_words_step}
-use Rattle.life_plane.specs.Apart.{Within, Live, Dead, live_or_dead, dead_step}
+use Rattle.life_plane.specs.Apart.{Within, Live, Dead}
+use Rattle.life_plane.specs.ApartLaws.{live_or_dead, dead_step}
 use Rattle.life_plane.specs.Plane.{Plane, step}
 use Rattle.life_tiles.specs.declared.place.Place.{Place}
 use Rattle.life_tiles.specs.declared.tile_map.TileMap.{TileMap}

@@ -1,10 +1,8 @@
 -- How a set of cells lies in tiles: aligned squares of 64 by 64 cells, of which each row is a word.
-use Rattle.std.specs.Prelude.{◌≡◌, ◌≢◌, ◌≤ℤ◌, neg_ℤ, ◌-ℤ◌, true, false, ◌⊎◌, Bool, ◌&&◌, ℕ, suc, zero, ◌+◌, ◌*◌, ◌<◌, ◌≤◌, ◌^◌, ℤ, pos, ◌+ℤ◌, ◌*ℤ◌, List, [], ◌∷◌, ◌++◌, cond, MatchOption, Option, Some, slice_get, slice_index, length}
+use Rattle.std.specs.Prelude.{◌≡◌, ◌≢◌, ◌≤ℤ◌, neg_ℤ, ◌-ℤ◌, true, false, ◌⊎◌, Bool, ◌&&◌, ℕ, suc, zero, ◌+◌, ◌*◌, ◌<◌, ◌≤◌, ◌^◌, ℤ, pos, ◌+ℤ◌, ◌*ℤ◌, List, [], ◌∷◌, ◌++◌, cond, Some, slice_get, slice_index, length}
 use Rattle.std.specs.List.{position_or_len, IsDistinct}
 use Rattle.std.specs.Ordering.{int_eq}
 use Rattle.std.proofs.Common.{get_or}
-use Rattle.life_cells.specs.Boxes.{IsLeastBox}
-use Rattle.life_cells.specs.declared.bounds.Bounds.{Bounds}
 use Rattle.life_cells.specs.declared.cell.Cell.{Cell}
 use Rattle.life_cells.specs.Cells.{cell, Cells, from_list}
 use Rattle.life_kernel.specs.Rows.{test}
@@ -87,10 +85,6 @@ list_cells places rows (suc index) = list_cells places rows index ++ tile_cells 
 -- the live cells as a set
 unfoldable pub set_of : TileMap → Cells
 set_of m = from_list (list_cells m.places.keys m.rows.items (length m.places.keys))
-
--- the box is the least one; there is none where no cell lives
-abbrev pub IsBoxOf : Option Bounds → Plane → Type 0
-IsBoxOf found s = MatchOption found (s ≡ nothing) (λ box. IsLeastBox box s)
 
 -- the tile at this index is marked: it is known to become what it was a generation ago
 abbrev pub is_calm : TileMap → ℕ → Bool

@@ -1,11 +1,10 @@
 //! The least box about the live cells of tiles.
 
 ghost use Rattle.std.specs.Prelude.{◌≡◌, ◌+◌, ◌*◌, ◌<◌, ◌≤◌, ◌^◌, MatchOption, length};
-ghost use Rattle.std.specs.Int.{int_min, int_max};
-ghost use Rattle.life_cells.specs.Boxes.{IsLeastBox};
+ghost use Rattle.life_cells.specs.Boxes.{IsLeastBox, IsBoxOf};
 ghost use Rattle.life_cells.specs.Listed.{listed};
 ghost use Rattle.life_plane.specs.Plane.{Plane, union};
-ghost use Rattle.life_tiles.specs.Tiling.{IsWithin, IsTiled, IsBoxOf, cells_of, word_cells, tile_cells, list_cells};
+ghost use Rattle.life_tiles.specs.Tiling.{IsWithin, IsTiled, cells_of, word_cells, tile_cells, list_cells};
 
 use crate::place::Place;
 use crate::reading::cell_at;
@@ -51,7 +50,7 @@ fn with_word(found: Option<Bounds>, place: Place, down: usize, word: u64) -> Opt
     let row = row_box(place, down, word);
     match found {
         None => Some(row),
-        Some(bounds) => Some(both(bounds, row)),
+        Some(bounds) => Some(bounds.joined(row)),
     }
 }
 
@@ -69,23 +68,5 @@ fn row_box(place: Place, down: usize, word: u64) -> Bounds
         top: left.y,
         right: right.x,
         bottom: right.y,
-    }
-}
-
-// The least box that holds two boxes.
-fn both(a: Bounds, b: Bounds) -> Bounds
-    ensures { result
-        ≡ record {
-          left = int_min a.left b.left;
-          top = int_min a.top b.top;
-          right = int_max a.right b.right;
-          bottom = int_max a.bottom b.bottom;
-        } }
-{
-    Bounds {
-        left: a.left.min(b.left),
-        top: a.top.min(b.top),
-        right: a.right.max(b.right),
-        bottom: a.bottom.max(b.bottom),
     }
 }

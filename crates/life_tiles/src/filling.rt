@@ -1,8 +1,7 @@
 //! Cells that are put into tiles.
 
 ghost use Rattle.std.specs.Prelude.{◌≡◌, ◌∷◌, [], ◌^◌, IfOk, OnOk};
-ghost use Rattle.life_cells.specs.BoxLaws.{IsCellInRange};
-ghost use Rattle.life_cells.specs.Boxes.{IsInRange};
+ghost use Rattle.life_cells.specs.Boxes.{IsCellInRange, IsInRange};
 ghost use Rattle.life_cells.specs.Listed.{listed};
 ghost use Rattle.life_plane.specs.Plane.{union};
 ghost use Rattle.life_tiles.specs.Tiling.{IsTiled, IsRested, IsRecent, cells_of};

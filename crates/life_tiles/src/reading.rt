@@ -1,11 +1,11 @@
 //! The live cells of tiles, and the least box about them.
 
 ghost use Rattle.std.specs.Prelude.{◌≡◌, ◌++◌, ◌∷◌, [], cond, ◌+◌, ◌*◌, ◌<◌, ◌≤◌, ◌^◌, pos, ◌+ℤ◌, ◌*ℤ◌, length, IfOk, OnOk};
-ghost use Rattle.life_cells.specs.Boxes.{IsLeastBox};
+ghost use Rattle.life_cells.specs.Boxes.{IsLeastBox, IsBoxOf};
 ghost use Rattle.life_cells.specs.Cells.{cell};
 ghost use Rattle.life_cells.specs.Listed.{listed};
 ghost use Rattle.life_plane.specs.Plane.{Plane, union};
-ghost use Rattle.life_tiles.specs.Tiling.{IsWithin, IsTiled, IsBoxOf, cells_of, word_cells, tile_cells, list_cells};
+ghost use Rattle.life_tiles.specs.Tiling.{IsWithin, IsTiled, cells_of, word_cells, tile_cells, list_cells};
 
 use crate::place::Place;
 use crate::tile_map::{SIDE, TileMap};

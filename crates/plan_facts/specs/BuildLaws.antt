@@ -9,9 +9,9 @@ use Rattle.life_plane.specs.Strips.{UAtLeast}
 use Rattle.life_scene.specs.Whole.{IsFar}
 use Rattle.life_scene.specs.Build.{Strike, settled}
 use Rattle.recipe_hit.specs.Strike.{IsHit}
-use Rattle.stream_time.specs.Schedule.{Timed, end, advance_of, Thrown, throw_after, IsBehindTurn, IsBehindThrow}
-use Rattle.stream_time.specs.SceneTurns.{rules, throw_of, placed}
-use Rattle.stream_time.specs.SceneTurnLaws.{sound_turn, valid_kind, no_kind}
+use Rattle.event_times.specs.Schedule.{Timed, end, advance_of, Thrown, throw_after, IsBehindTurn, IsBehindThrow}
+use Rattle.event_times.specs.SceneTurns.{rules, throw_of, placed}
+use Rattle.event_times.specs.SceneTurnLaws.{sound_turn, valid_kind, no_kind}
 use Rattle.lane_clear.specs.Frames.{moved_bounds}
 use Rattle.plan_facts.specs.Happenings.{SalvoHit, Happening, frame_of, events_of}
 use Rattle.plan_facts.specs.State.{State, hand_plane, left_by}
@@ -42,7 +42,7 @@ use Rattle.book_parts.specs.Kinds.{kind_plane, next_plane}
 use Rattle.elbow_graph.specs.declared.elbow.Elbow.{Elbow}
 use Rattle.elbow_graph.specs.Elbows.{elbow, leaves}
 use Rattle.recipe_turn.specs.Kind.{IsValidKind}
-use Rattle.stream_time.specs.Events as timed
+use Rattle.event_times.specs.Events as timed
 use Rattle.plan_facts.specs.Happenings.Happening.{Turns, Hits}
 
 -- the elbow's plane and shift

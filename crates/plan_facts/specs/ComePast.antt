@@ -4,8 +4,8 @@ use Rattle.std.specs.List.{AllByRecursion}
 use Rattle.life_plane.specs.Plane.{Plane}
 use Rattle.life_plane.specs.Strips.{Each}
 use Rattle.life_scene.specs.Clearance.{ComesPast}
-use Rattle.stream_time.specs.Schedule.{Timed, end}
-use Rattle.stream_time.specs.Events.{HasBeen, SparesHit}
+use Rattle.event_times.specs.Schedule.{Timed, end}
+use Rattle.event_times.specs.Events.{HasBeen, SparesHit}
 use Rattle.recipe_hit.specs.SceneHitLaws.{as_box}
 use Rattle.life_scene.specs.Hits as scene
 use Rattle.life_cells.specs.declared.bounds.Bounds.{Bounds}

@@ -7,7 +7,8 @@ use Rattle.std.proofs.lemmas.Bool.{eqb-true, or_left, or_right}
 use Rattle.life_plane.specs.PlaneLaws.{union_assoc}
 use Rattle.life_plane.specs.Plane.{Plane, union, shift, IsStill, same_plane}
 use Rattle.life_plane.specs.Apart.{Apart}
-use Rattle.life_plane.specs.Strips.{Each, apart_symmetric, apart_union}
+use Rattle.life_plane.specs.Strips.{Each}
+use Rattle.life_plane.specs.StripLaws.{apart_symmetric, apart_union}
 use Rattle.life_scene.specs.HandSide.{Rests}
 use Rattle.recipe_hit.specs.Sound.{IsSound, left_hand}
 use Rattle.lane_clear.specs.Frames.{moved_bounds}

@@ -1,9 +1,7 @@
 -- What a test of two numbers says.
-use Rattle.std.proofs.Common.{◌≡◌, Bool, true, false, ℤ, pos, neg_ℤ, ◌+ℤ◌, ◌≤ℤ◌, ◌^◌, w64, to_z, of_z, ◌∙◌, arith, Result, Ok, Err, IfOk, IsTrue, ◌↔◌, MatchBool, sym, subst}
+use Rattle.std.proofs.Common.{◌≡◌, Bool, true, false, ℤ, pos, neg_ℤ, ◌+ℤ◌, ◌≤ℤ◌, ◌^◌, w64, to_z, of_z, arith, Result, Ok, Err, IfOk, IsTrue, ◌↔◌, MatchBool, sym, subst}
 use lib.Signed.{le_z}
-use Rattle.std.specs.Int.{int_min, int_max}
-use Rattle.std.specs.Prelude.{FitsSigned}
-use Rattle.std.proofs.lemmas.Int.{ints, to_z-of_z}
+use Rattle.std.proofs.lemmas.Int.{ints}
 use Rattle.life_plane.specs.NumberLaws.{le_from_test, test_from_le}
 
 -- what holds where a test succeeds
@@ -31,10 +29,3 @@ beyond_kept z low high = omega (arith, ints)
 pub not_if_false : (b : Bool) (P : Type 0) → b ≡ false → IsTrue b ↔ P → P → ⊥
 not_if_false true P is h p = cc
 not_if_false false P is h p = let yes = h.1 p in cc
-
--- the lesser and the greater of two numbers of 64 bits, as they are kept
-pub min_is : (a b r : ℤ) → FitsSigned w64 a → FitsSigned w64 b → FitsSigned w64 r → r ≡ int_min (to_z w64 (of_z w64 a)) (to_z w64 (of_z w64 b)) → to_z w64 (of_z w64 r) ≡ int_min a b
-min_is a b r fa fb fr e = to_z-of_z w64 r fr ∙ e ∙ (λ i. int_min (to_z-of_z w64 a fa i) (to_z-of_z w64 b fb i))
-
-pub max_is : (a b r : ℤ) → FitsSigned w64 a → FitsSigned w64 b → FitsSigned w64 r → r ≡ int_max (to_z w64 (of_z w64 a)) (to_z w64 (of_z w64 b)) → to_z w64 (of_z w64 r) ≡ int_max a b
-max_is a b r fa fb fr e = to_z-of_z w64 r fr ∙ e ∙ (λ i. int_max (to_z-of_z w64 a fa i) (to_z-of_z w64 b fb i))

@@ -4,8 +4,9 @@ use Rattle.std.proofs.lemmas.Int.{ints}
 use Rattle.std.proofs.lemmas.Bool.{cases_lt}
 use Rattle.life_plane.specs.Plane.{Plane, run, union, IsStill}
 use Rattle.life_plane.specs.Apart.{Apart}
-use Rattle.life_plane.specs.Evolve.{run-add, run_union, still_run}
-use Rattle.life_plane.specs.Salvo.{salvo_glider, run_salvo}
+use Rattle.life_plane.specs.EvolveLaws.{run-add, run_union, still_run}
+use Rattle.life_plane.specs.Salvo.{salvo_glider}
+use Rattle.life_plane.specs.SalvoLaws.{run_salvo}
 use Rattle.life_scene.specs.HitLaws.{coming_apart, hit_lasts}
 use Rattle.life_cells.specs.declared.bounds.Bounds.{Bounds}
 use Rattle.life_cells.specs.Cells.{alive}

@@ -3,7 +3,8 @@ use Rattle.std.proofs.Common.{◌≡◌, ◌^◌, ℤ, pos, neg_ℤ, ◌*ℤ◌,
 use Rattle.std.proofs.lemmas.Int.{ints}
 use Rattle.std.proofs.Math.Bool.{or_self_left}
 use Rattle.life_plane.specs.Plane.{Plane, union, same_plane}
-use Rattle.life_plane.specs.Salvo.{salvo_glider, salvo_range}
+use Rattle.life_plane.specs.Salvo.{salvo_glider}
+use Rattle.life_plane.specs.SalvoLaws.{salvo_range}
 use Rattle.life_cells.specs.Boxes.{IsInRange, IsLeastBox}
 use Rattle.life_cells.specs.BoxLaws.{range_union, range_wider}
 use Rattle.life_cells.specs.declared.bounds.Bounds.{Bounds}

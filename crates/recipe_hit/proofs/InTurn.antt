@@ -4,9 +4,10 @@ use Rattle.std.specs.List.{slice_get}
 use Rattle.std.proofs.lemmas.Int.{ints}
 use Rattle.std.proofs.lemmas.Bool.{or_right}
 use Rattle.life_plane.specs.Plane.{Plane}
-use Rattle.life_plane.specs.Salvo.{salvo_glider, salvo_front, salvo_range, salvo_corner}
+use Rattle.life_plane.specs.Salvo.{salvo_glider}
+use Rattle.life_plane.specs.SalvoLaws.{salvo_front, salvo_range, salvo_corner}
 use Rattle.life_cells.specs.Cells.{alive}
-use Rattle.life_cells.specs.Boxes.{IsInRange}
+use Rattle.life_cells.specs.Boxes.{IsInRange, IsBoxInRange}
 use Rattle.life_cells.specs.BoxLaws.{range_wider}
 use Rattle.book_parts.specs.Limits.{IsCoordinate}
 use Rattle.book_parts.specs.Proper.{IsProperHand}
@@ -14,7 +15,6 @@ use Rattle.recipe_hit.specs.declared.hit.Hit.{Hit}
 use Rattle.recipe_hit.specs.Strike.{first_quarter, hit_start, IsHit}
 use Rattle.recipe_hit.specs.Sound.{AreHits, what_is_left}
 use Rattle.recipe_hit.specs.Checked.{IsSmall, IsSmallFrame, AreSmallFrames}
-use Rattle.recipe_hit.specs.Joins.{IsBoxInRange}
 use Rattle.recipe_hit.proofs.Joining.{box_in_range, range_of_box}
 use Rattle.recipe_hit.specs.SceneHitLaws.{in_ever}
 

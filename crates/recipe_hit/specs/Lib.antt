@@ -4,7 +4,6 @@ pub mod SceneHitLaws
 pub mod Hands
 pub mod Refusals
 pub mod Rest
-pub mod Joins
 pub mod FurtherBack
 pub mod Sound
 pub mod SalvoRefusals

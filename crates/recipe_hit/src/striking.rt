@@ -2,10 +2,9 @@
 
 ghost use Rattle.std.specs.Prelude.{◌≡◌, ◌+◌, ◌≤◌, ◌≤ℤ◌, ◌*ℤ◌, ◌^◌, pos, neg_ℤ, IfOk, IfErr};
 ghost use Rattle.life_cells.specs.Cells.{alive};
-ghost use Rattle.life_cells.specs.Boxes.{IsInRange};
+ghost use Rattle.life_cells.specs.Boxes.{IsInRange, IsBoxInRange};
 ghost use Rattle.life_plane.specs.Plane.{union};
 ghost use Rattle.life_plane.specs.Salvo.{salvo_glider};
-ghost use Rattle.recipe_hit.specs.Joins.{IsBoxInRange};
 ghost use Rattle.recipe_hit.specs.Strike.{IsHit, first_quarter};
 ghost use Rattle.recipe_hit.specs.Refusals.{HitIsRefused};
 

@@ -4,7 +4,8 @@ use Rattle.std.proofs.lemmas.Int.{ints}
 use Rattle.std.proofs.lemmas.List.{at_drop_more, at_drop_all, take_more, take_all}
 use Rattle.std.proofs.Math.Bool.{or_assoc, or-false}
 use Rattle.life_plane.specs.Plane.{Plane, union, same_plane}
-use Rattle.life_plane.specs.Tracks.{stream_glider, OnStream, stream_range}
+use Rattle.life_plane.specs.Tracks.{stream_glider, OnStream}
+use Rattle.life_plane.specs.TrackLaws.{stream_range}
 use Rattle.life_cells.specs.declared.cell.Cell.{Cell}
 use Rattle.life_cells.specs.Listed.{listed}
 use Rattle.life_cells.specs.Laws.{listed-append}

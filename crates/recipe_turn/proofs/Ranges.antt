@@ -4,7 +4,8 @@ use Rattle.std.specs.List.{AllByRecursion}
 use Rattle.std.proofs.lemmas.Int.{ints}
 use Rattle.std.proofs.lemmas.Bool.{or_cases}
 use Rattle.life_plane.specs.Plane.{Plane, union}
-use Rattle.life_plane.specs.Tracks.{stream_glider, stream_range}
+use Rattle.life_plane.specs.Tracks.{stream_glider}
+use Rattle.life_plane.specs.TrackLaws.{stream_range}
 use Rattle.life_cells.specs.Boxes.{IsInRange}
 use Rattle.life_cells.specs.BoxLaws.{range_union}
 use Rattle.book_parts.specs.Limits.{AreProper, IsPlaced}

@@ -11,8 +11,8 @@ use Rattle.book_parts.specs.Proper.{IsProperTurn}
 use Rattle.book_parts.specs.declared.settings.Settings.{Settings}
 use Rattle.book_parts.specs.declared.turn.RawTurn.{RawTurn}
 use Rattle.elbow_graph.specs.Numbered.{IsNumbered}
-use Rattle.stream_time.specs.Schedule.{Timed, end, advance_of}
-use Rattle.stream_time.specs.Pattern.{turn_gliders, stream, last_end}
+use Rattle.event_times.specs.Schedule.{Timed, end, advance_of}
+use Rattle.event_times.specs.Pattern.{turn_gliders, stream, last_end}
 use Rattle.stream_time.specs.Timing.{timed, wait}
 use Rattle.stream_time.specs.Numbered.{AreNumbered, count_of}
 use Rattle.elbow_graph.specs.NumberedLaws.{numbered_once}

@@ -19,14 +19,14 @@ use Rattle.recipe_turn.specs.Checked.{raws}
 use Rattle.elbow_graph.specs.Elbows.{elbow}
 use Rattle.recipe_book.specs.Checked.{CheckedEntries, IsCheckedBook}
 use Rattle.elbow_graph.specs.Numbered.{IsNumbered}
-use Rattle.stream_time.specs.Schedule.{Timed, advance_of, Past, no_past, past_after, IsValid, IsChosen}
-use Rattle.stream_time.specs.Pattern.{Closes, stream, pattern, last_end}
+use Rattle.event_times.specs.Schedule.{Timed, advance_of, Past, no_past, past_after, IsValid, IsChosen}
+use Rattle.event_times.specs.Pattern.{Closes, stream, pattern, last_end}
 use Rattle.stream_time.specs.Timing.{timed, wait}
 use Rattle.stream_time.specs.TimingLaws.{timed_chosen}
 use Rattle.stream_time.specs.Numbered.{AreNumbered}
 use Rattle.stream_time.specs.NumberedLaws.{walked}
-use Rattle.stream_time.specs.Closing.{AreSoundHere, IsClosingStream}
-use Rattle.stream_time.specs.ClosingLaws.{closing_stream_vanishes}
+use Rattle.event_times.specs.Closing.{AreSoundHere, IsClosingStream}
+use Rattle.event_times.specs.ClosingLaws.{closing_stream_vanishes}
 use Rattle.stream_time.specs.RangeLaws.{stream_near, placed_near, both_near, near_in_range}
 use Rattle.life_cells.specs.Listed.{listed}
 use Rattle.stream_time.specs.Built.{most_gliders, IsClosing, IsBuilt, IsLong}

@@ -9,8 +9,8 @@ use Rattle.recipe_turn.specs.Checked.{raws}
 use Rattle.elbow_graph.specs.Elbows.{elbow}
 use Rattle.recipe_book.specs.Checked.{CheckedEntries}
 use Rattle.elbow_route.specs.Lists.{ClosesBy, IsLeastClosing}
-use Rattle.stream_time.specs.Schedule.{Timed, no_past, IsChosen}
-use Rattle.stream_time.specs.Pattern.{Closes, pattern, last_end}
+use Rattle.event_times.specs.Schedule.{Timed, no_past, IsChosen}
+use Rattle.event_times.specs.Pattern.{Closes, pattern, last_end}
 use Rattle.stream_time.specs.Timing.{timed}
 use Rattle.stream_time.specs.Numbered.{AreNumbered, count_of}
 use Rattle.stream_time.specs.declared.building.Built.{Built}

@@ -5,8 +5,8 @@ use Rattle.life_cells.specs.Listed.{listed}
 use Rattle.book_parts.specs.Limits.{IsFrom}
 use Rattle.book_parts.specs.declared.settings.Settings.{Settings}
 use Rattle.book_parts.specs.declared.turn.RawTurn.{RawTurn}
-use Rattle.stream_time.specs.Schedule.{advance_of}
-use Rattle.stream_time.specs.Pattern.{turn_gliders, stream, last_end}
+use Rattle.event_times.specs.Schedule.{advance_of}
+use Rattle.event_times.specs.Pattern.{turn_gliders, stream, last_end}
 use Rattle.stream_time.specs.Timing.{timed, wait}
 use Rattle.stream_time.specs.declared.layout.Layout.{Layout}
 

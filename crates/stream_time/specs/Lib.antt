@@ -1,10 +1,4 @@
--- Streams of turns in time: when each turn may start, the pattern, its number of generations, and what it comes to.
-pub mod Schedule
-pub mod Pattern
-pub mod SceneTurns
-pub mod SceneTurnLaws
-pub mod Closing
-pub mod ClosingLaws
+-- Streams of turns laid out in time, and what a book builds.
 pub mod Timing
 pub mod TimingLaws
 pub mod Numbered
@@ -13,5 +7,3 @@ pub mod Laying
 pub mod Built
 pub mod WaitLaws
 pub mod RangeLaws
-pub mod Events
-pub mod EventLaws

@@ -3,7 +3,7 @@ use Rattle.std.specs.Prelude.{◌≡◌, ℕ, List, [], ◌∷◌, length, sum_b
 use Rattle.book_parts.specs.declared.turn.RawTurn.{RawTurn}
 use Rattle.elbow_graph.specs.declared.elbow.Elbow.{Elbow}
 use Rattle.elbow_graph.specs.Numbered.{IsNumbered}
-use Rattle.stream_time.specs.Pattern.{Closes}
+use Rattle.event_times.specs.Pattern.{Closes}
 use Rattle.stream_time.specs.Timing.{timed}
 
 -- these are the turns of the list's numbers, in its order

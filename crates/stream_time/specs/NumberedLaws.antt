@@ -14,8 +14,8 @@ use Rattle.elbow_graph.specs.declared.goal.Goal.TheVariants.{Closed}
 use Rattle.elbow_graph.specs.Goals.{MayPass, IsEnd}
 use Rattle.elbow_graph.specs.NumberedLaws.{numbered_once, turn_numbered}
 use Rattle.elbow_route.specs.Lists.{ClosesBy}
-use Rattle.stream_time.specs.Schedule.{advance_of}
-use Rattle.stream_time.specs.Pattern.{Closes, GoesOn}
+use Rattle.event_times.specs.Schedule.{advance_of}
+use Rattle.event_times.specs.Pattern.{Closes, GoesOn}
 use Rattle.stream_time.specs.Timing.{timed, wait}
 use Rattle.stream_time.specs.Numbered.{AreNumbered, IsWalked}
 

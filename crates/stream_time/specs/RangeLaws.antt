@@ -5,15 +5,16 @@ use Rattle.std.proofs.Common.{arith, inl, inr}
 use Rattle.std.proofs.lemmas.Int.{ints}
 use Rattle.std.proofs.lemmas.Bool.{or_cases}
 use Rattle.life_plane.specs.Plane.{Plane, union}
-use Rattle.life_plane.specs.Tracks.{stream_glider, stream_range}
+use Rattle.life_plane.specs.Tracks.{stream_glider}
+use Rattle.life_plane.specs.TrackLaws.{stream_range}
 use Rattle.life_cells.specs.Boxes.{IsInRange}
 use Rattle.book_parts.specs.Limits.{IsFrom, IsApproach, IsPlaced}
 use Rattle.book_parts.specs.Proper.{IsDelay, IsProperTurn}
 use Rattle.book_parts.specs.declared.settings.Settings.{Settings}
 use Rattle.book_parts.specs.declared.turn.RawTurn.{RawTurn}
 use Rattle.recipe_turn.specs.Turn.{gliders}
-use Rattle.stream_time.specs.Schedule.{advance_of}
-use Rattle.stream_time.specs.Pattern.{stream}
+use Rattle.event_times.specs.Schedule.{advance_of}
+use Rattle.event_times.specs.Pattern.{stream}
 use Rattle.stream_time.specs.Timing.{timed, wait}
 use Rattle.stream_time.specs.Laying.{IsEarly}
 use Rattle.stream_time.specs.WaitLaws.{advance_small, wait_small}

@@ -4,7 +4,7 @@ use Rattle.std.specs.declared.option.Option.TheVariants.{Some, None}
 use Rattle.life_plane.specs.Tracks.{gap}
 use Rattle.book_parts.specs.declared.turn.RawTurn.{RawTurn}
 use Rattle.book_parts.specs.declared.turn.TurnEnd.{TurnEnd}
-use Rattle.stream_time.specs.Schedule.{Timed, end, advance_of, Past}
+use Rattle.event_times.specs.Schedule.{Timed, end, advance_of, Past}
 
 -- a number, where it isn't negative; else none
 abbrev pub natural_part : ℤ → ℕ

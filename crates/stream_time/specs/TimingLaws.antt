@@ -8,8 +8,8 @@ use Rattle.book_parts.specs.declared.settings.Settings.{Settings}
 use Rattle.book_parts.specs.declared.turn.RawTurn.{RawTurn}
 use Rattle.book_parts.specs.declared.turn.TurnEnd.{TurnEnd}
 use Rattle.book_parts.specs.declared.turn.TurnEnd.TheVariants.{Close, Move, Emit}
-use Rattle.stream_time.specs.Schedule.{Timed, end, advance_of, Past, past_after, throw_after, Thrown, IsBehindTurn, IsLeastStart, IsChosen}
-use Rattle.stream_time.specs.Pattern.{Closes, GoesOn}
+use Rattle.event_times.specs.Schedule.{Timed, end, advance_of, Past, past_after, throw_after, Thrown, IsBehindTurn, IsLeastStart, IsChosen}
+use Rattle.event_times.specs.Pattern.{Closes, GoesOn}
 use Rattle.stream_time.specs.Timing.{natural_part, wait, timed, IsNextStart}
 
 above : (z : ℤ) (n m : ℕ) → (pos n +ℤ z) ≤ℤ pos m → n ≤ m → n + natural_part z ≤ m

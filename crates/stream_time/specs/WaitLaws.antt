@@ -6,7 +6,7 @@ use Rattle.book_parts.specs.Limits.{IsCoordinate}
 use Rattle.book_parts.specs.Proper.{IsProperEnd}
 use Rattle.book_parts.specs.declared.turn.TurnEnd.{TurnEnd}
 use Rattle.book_parts.specs.declared.turn.TurnEnd.TheVariants.{Close, Move, Emit}
-use Rattle.stream_time.specs.Schedule.{advance_of}
+use Rattle.event_times.specs.Schedule.{advance_of}
 use Rattle.stream_time.specs.Timing.{natural_part, longest_wait}
 
 pub advance_small : (kinds : ℕ) (e : TurnEnd) → IsProperEnd kinds e → IsCoordinate (advance_of e)

@@ -9,7 +9,7 @@ ghost use Rattle.book_parts.specs.Limits.{AreProper, IsCoordinate};
 ghost use Rattle.book_parts.specs.Proper.{IsDelay, IsProperTurn};
 ghost use Rattle.book_parts.specs.declared.turn.RawTurn.{RawTurn};
 ghost use Rattle.recipe_turn.specs.Turn.{gliders};
-ghost use Rattle.stream_time.specs.Schedule.{advance_of};
+ghost use Rattle.event_times.specs.Schedule.{advance_of};
 ghost use Rattle.stream_time.specs.Timing.{wait, longest_wait};
 ghost use Rattle.stream_time.specs.Laying.{IsShift, IsTime, IsPushed, latest_start, latest_end};
 

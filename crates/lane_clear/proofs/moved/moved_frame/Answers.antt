@@ -1,6 +1,6 @@
 use Rattle.std.proofs.Common.{◌≡◌, ◌^◌, ◌+ℤ◌, ◌-ℤ◌, w64, to_z, of_z, sym, subst, arith}
 use Rattle.std.proofs.lemmas.Int.{ints}
-use Rattle.life_cone.specs.FarBoxes.{IsBoxInRange}
+use Rattle.life_cells.specs.Boxes.{IsBoxInRange}
 use Rattle.lane_clear.proofs.moved.moved_frame.Goals as goal
 
 pub returns-clause-moved : goal.returns-clause-moved

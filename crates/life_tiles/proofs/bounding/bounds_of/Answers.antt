@@ -2,7 +2,8 @@ use Rattle.std.proofs.Common.{◌*◌, ◌<◌, length, get_or, pos, ap, sym, su
 use Rattle.life_cells.specs.Laws.{listed-append}
 use Rattle.life_cells.specs.Listed.{listed}
 use Rattle.life_plane.specs.Plane.{union}
-use Rattle.life_tiles.specs.Tiling.{place, IsBoxOf, tile_cells, list_cells}
+use Rattle.life_cells.specs.Boxes.{IsBoxOf}
+use Rattle.life_tiles.specs.Tiling.{place, tile_cells, list_cells}
 use Rattle.life_tiles.proofs.Lists.{list_none, list_more, listed_plane}
 use Rattle.life_tiles.proofs.Tiling.{item_of}
 use Rattle.life_tiles.proofs.bounding.bounds_of.Goals as goal

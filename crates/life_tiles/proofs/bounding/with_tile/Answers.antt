@@ -1,8 +1,9 @@
 use Rattle.std.proofs.Common.{ap, sym, subst}
 use Rattle.life_cells.specs.Listed.{listed}
 use Rattle.life_plane.specs.Plane.{union}
-use Rattle.life_tiles.specs.Tiling.{IsBoxOf}
-use Rattle.life_tiles.proofs.Boxed.{box_stays, box_appended}
+use Rattle.life_cells.specs.Boxes.{IsBoxOf}
+use Rattle.life_cells.specs.BoxLaws.{box_stays}
+use Rattle.life_tiles.proofs.Boxed.{box_appended}
 use Rattle.life_tiles.proofs.Lists.{tile_none, tile_more}
 use Rattle.life_tiles.proofs.bounding.with_tile.Goals as goal
 

@@ -1,13 +1,12 @@
-use Rattle.std.proofs.Common.{subst, sym}
+use Rattle.std.proofs.Common.{subst, sym, Some}
 use Rattle.life_plane.specs.Plane.{union}
-use Rattle.life_cells.specs.Boxes.{IsLeastBox}
-use Rattle.recipe_hit.specs.Joins.{IsBoxOf}
-use Rattle.recipe_hit.proofs.Joining.{join_least, join_none}
+use Rattle.life_cells.specs.Boxes.{IsLeastBox, IsBoxOf}
+use Rattle.life_cells.specs.BoxLaws.{least_of_both, box_stays}
 use Rattle.recipe_hit.proofs.boxes.grown.Goals as goal
 
 pub returns-in-Some : goal.returns-in-Some
 returns-in-Some c = λ s t h k.
-    subst (λ box. IsLeastBox box (union s t)) (sym c.joined.ensures) (join_least c.args.bounds c.in-Some.more s t h (subst (λ more. IsBoxOf more t) c.in-Some.is k))
+    subst (λ box. IsLeastBox box (union s t)) (sym c.joined.ensures) (least_of_both c.args.bounds c.in-Some.more s t h (subst (λ more. IsBoxOf more t) c.in-Some.is k))
 
 pub returns-in-None : goal.returns-in-None
-returns-in-None c = λ s t h k. join_none c.args.bounds s t h (subst (λ more. IsBoxOf more t) c.in-None.is k)
+returns-in-None c = λ s t h k. box_stays (Some c.args.bounds) s t (subst (λ more. IsBoxOf more t) c.in-None.is k) h

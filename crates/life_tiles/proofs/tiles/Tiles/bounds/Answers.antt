@@ -1,5 +1,5 @@
 use Rattle.std.proofs.Common.{sym, subst}
-use Rattle.life_tiles.specs.Tiling.{IsBoxOf}
+use Rattle.life_cells.specs.Boxes.{IsBoxOf}
 use Rattle.life_tiles.proofs.Evolved.{shown, box_some, box_none}
 use Rattle.life_tiles.proofs.tiles.Tiles.bounds.Goals as goal
 

@@ -8,7 +8,7 @@ use Rattle.book_parts.specs.declared.turn.TurnEnd.{TurnEnd}
 use Rattle.book_parts.specs.declared.turn.TurnEnd.TheVariants.{Close, Move, Emit}
 use Rattle.book_parts.specs.Kinds.{kind_plane}
 use Rattle.recipe_turn.specs.Turn.{gliders}
-use Rattle.stream_time.specs.Schedule.{Timed, end}
+use Rattle.event_times.specs.Schedule.{Timed, end}
 
 -- after a closing turn this is so; after a move the elbow's kind and shift are such; nothing is thrown
 abbrev pub GoesOn : TurnEnd → ℤ → Type 0 → (ℕ → ℤ → Type 0) → Type 0

@@ -13,8 +13,8 @@ use Rattle.book_parts.specs.declared.turn.TurnEnd.{TurnEnd}
 use Rattle.book_parts.specs.declared.turn.TurnEnd.TheVariants.{Close, Move, Emit}
 use Rattle.book_parts.specs.Kinds.{kind_plane}
 use Rattle.recipe_hit.specs.SceneHitLaws.{as_box}
-use Rattle.stream_time.specs.Schedule.{Timed, end, Thrown, Past, no_past, past_after, MayStart}
-use Rattle.stream_time.specs.Pattern.{turn_gliders}
+use Rattle.event_times.specs.Schedule.{Timed, end, Thrown, Past, no_past, past_after, MayStart}
+use Rattle.event_times.specs.Pattern.{turn_gliders}
 
 -- a hit at the hand, moved to the hand's place: its lane, the quarter of its glider's index at which it begins, its bounds, and how long it lasts
 pub record Struck : Type 0 where

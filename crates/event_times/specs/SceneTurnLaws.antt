@@ -19,10 +19,10 @@ use Rattle.book_parts.specs.declared.turn.TurnEnd.TheVariants.{Close, Move, Emit
 use Rattle.book_parts.specs.Limits.{AreProper}
 use Rattle.recipe_turn.specs.Kind.{IsValidKind}
 use Rattle.recipe_turn.specs.Turn.{IsSound, AreSpaced, AreSpacedFrom, gliders, turn_start, turn_end, IsInFront}
-use Rattle.stream_time.specs.Schedule.{Timed, advance_of}
-use Rattle.stream_time.specs.Pattern.{turn_gliders}
+use Rattle.event_times.specs.Schedule.{Timed, advance_of}
+use Rattle.event_times.specs.Pattern.{turn_gliders}
 use Rattle.book_parts.specs.Kinds.{kind_plane, next_plane}
-use Rattle.stream_time.specs.SceneTurns.{Half, half_approach, rules, throw_of, framed, placed}
+use Rattle.event_times.specs.SceneTurns.{Half, half_approach, rules, throw_of, framed, placed}
 
 -- a delay that isn't negative
 pub natural : (z : ℤ) → pos 0 ≤ℤ z → z ≡ pos (unsigned_abs z)

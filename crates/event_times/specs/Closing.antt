@@ -4,9 +4,9 @@ use Rattle.book_parts.specs.declared.settings.Settings.{Settings}
 use Rattle.book_parts.specs.declared.kind.RawKind.{RawKind}
 use Rattle.recipe_turn.specs.Kind.{IsValidKind}
 use Rattle.recipe_turn.specs.Turn.{IsSound}
-use Rattle.stream_time.specs.Schedule.{Timed, no_past, IsValid}
+use Rattle.event_times.specs.Schedule.{Timed, no_past, IsValid}
 use Rattle.book_parts.specs.Kinds.{kind_plane, next_plane}
-use Rattle.stream_time.specs.Pattern.{Closes}
+use Rattle.event_times.specs.Pattern.{Closes}
 
 -- a turn is sound between the kinds that it names, and begins at a valid one
 pub record IsSoundHere (settings : Settings) (kinds : List RawKind) (m : Timed) : Type 0 where

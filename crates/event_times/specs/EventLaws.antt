@@ -9,10 +9,10 @@ use Rattle.book_parts.specs.declared.kind.RawKind.{RawKind}
 use Rattle.book_parts.specs.declared.turn.TurnEnd.{TurnEnd}
 use Rattle.book_parts.specs.declared.turn.TurnEnd.TheVariants.{Close, Move, Emit}
 use Rattle.book_parts.specs.Kinds.{kind_plane}
-use Rattle.stream_time.specs.Schedule.{Timed, end, Past, no_past, past_after, IsValid, IsChosen}
-use Rattle.stream_time.specs.Pattern.{stream, pattern, turn_gliders, last_end}
-use Rattle.stream_time.specs.Events.{Event, History, no_history, SparesHits, AreValidEvents, AreChosenEvents, stream_of, has_hit, first_hand, pattern_of, turns_end, history_of, last_end_of, IsNumber}
-use Rattle.stream_time.specs.Events.Event.{Turn}
+use Rattle.event_times.specs.Schedule.{Timed, end, Past, no_past, past_after, IsValid, IsChosen}
+use Rattle.event_times.specs.Pattern.{stream, pattern, turn_gliders, last_end}
+use Rattle.event_times.specs.Events.{Event, History, no_history, SparesHits, AreValidEvents, AreChosenEvents, stream_of, has_hit, first_hand, pattern_of, turns_end, history_of, last_end_of, IsNumber}
+use Rattle.event_times.specs.Events.Event.{Turn}
 
 -- turns as events
 abbrev pub turn_events : List Timed → List Event

@@ -4,7 +4,7 @@ use Rattle.std.proofs.Common.{refl, sym, ap, subst, ◌∙◌, arith}
 use Rattle.std.proofs.lemmas.Int.{ints}
 use Rattle.life_plane.specs.PlaneLaws.{shift_none}
 use Rattle.life_plane.specs.Plane.{Plane, nothing, union, shift, run}
-use Rattle.life_plane.specs.Evolve.{run_shift}
+use Rattle.life_plane.specs.EvolveLaws.{run_shift}
 use Rattle.life_scene.specs.Turns as scene
 use Rattle.life_scene.specs.Turns.Throw.{Keeps, Throws}
 use Rattle.life_scene.specs.ElbowLaws.{elbow_side, scene_at_begin, scene_after}
@@ -15,12 +15,12 @@ use Rattle.book_parts.specs.declared.turn.TurnEnd.{TurnEnd}
 use Rattle.book_parts.specs.declared.turn.TurnEnd.TheVariants.{Close, Move, Emit}
 use Rattle.book_parts.specs.Limits.{AreProper}
 use Rattle.recipe_turn.specs.Kind.{IsValidKind}
-use Rattle.stream_time.specs.Schedule.{Timed, end, advance_of, Past, no_past, past_after, IsValid}
+use Rattle.event_times.specs.Schedule.{Timed, end, advance_of, Past, no_past, past_after, IsValid}
 use Rattle.book_parts.specs.Kinds.{kind_plane, next_plane}
-use Rattle.stream_time.specs.Pattern.{Closes, GoesOn, turn_gliders, stream, pattern, last_end}
-use Rattle.stream_time.specs.SceneTurns.{rules, throw_of, placed}
-use Rattle.stream_time.specs.SceneTurnLaws.{sound_turn, valid_kind, no_kind, gliders_at_first}
-use Rattle.stream_time.specs.Closing.{AreSoundHere, IsClosingStream}
+use Rattle.event_times.specs.Pattern.{Closes, GoesOn, turn_gliders, stream, pattern, last_end}
+use Rattle.event_times.specs.SceneTurns.{rules, throw_of, placed}
+use Rattle.event_times.specs.SceneTurnLaws.{sound_turn, valid_kind, no_kind, gliders_at_first}
+use Rattle.event_times.specs.Closing.{AreSoundHere, IsClosingStream}
 
 -- the walk goes on: from a move, or it has ended
 goes_on : {closed : Type 0} {moved : ℕ → ℤ → Type 0} (P : scene.Throw → Plane → ℤ → Type 0) (kinds : List RawKind) (e : TurnEnd) (at : ℤ) → GoesOn e at closed moved →

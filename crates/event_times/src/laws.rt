@@ -6,10 +6,10 @@ ghost use Rattle.life_cells.specs.declared.cell.Cell.{Cell};
 ghost use Rattle.book_parts.specs.Limits.{AreProper};
 ghost use Rattle.book_parts.specs.declared.settings.Settings.{Settings};
 ghost use Rattle.book_parts.specs.declared.kind.RawKind.{RawKind};
-ghost use Rattle.stream_time.specs.Schedule.{Timed};
-ghost use Rattle.stream_time.specs.Pattern.{pattern, last_end};
-ghost use Rattle.stream_time.specs.Closing.{IsClosingStream};
-ghost use Rattle.stream_time.specs.EventLaws.{SaysTheSame};
+ghost use Rattle.event_times.specs.Schedule.{Timed};
+ghost use Rattle.event_times.specs.Pattern.{pattern, last_end};
+ghost use Rattle.event_times.specs.Closing.{IsClosingStream};
+ghost use Rattle.event_times.specs.EventLaws.{SaysTheSame};
 
 /// A stream of moves and a closing turn, whatever their number, leaves nothing at its last end.
 pub fn closing_streams_vanish()
