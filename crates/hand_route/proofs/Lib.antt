@@ -1,0 +1,2 @@
+-- Lemmas on lists of salvos that lead the hand.
+pub mod OneList
