@@ -1,0 +1,14 @@
+use Rattle.elbow_graph.specs.declared.goal.Goal.TheVariants.{Closed, Lane}
+use Rattle.build_plan.proofs.Leasts.{LeastAreOne}
+use Rattle.build_plan.proofs.OneStop.{plan_or_stop}
+use Rattle.build_plan.proofs.laws.plans_have_no_stop.Goals as goal
+
+pub returns : goal.returns
+returns c =
+    let one : LeastAreOne = record {
+      serving = λ turns span lane. c.least_lists_are_one.ensures turns span (Lane lane);
+      closing = λ turns span. c.least_lists_are_one.ensures turns span Closed;
+      hand = c.hand_lists_are_one.ensures;
+      farewell = c.farewells_are_one.ensures;
+    } in
+    plan_or_stop one
