@@ -4,10 +4,8 @@ ghost use Rattle.std.specs.Prelude.{◌≡◌, ◌↔◌, codes, IsTrue, IfSome,
 ghost use Rattle.std.specs.List.{list_all};
 ghost use Rattle.book_parts.specs.Limits.{IsName, begins_with_letter, is_name_byte};
 
+use book_parts::limits::LONGEST_NAME;
 use std::str;
-
-/// The most bytes of a name.
-const MOST_BYTES: usize = 32;
 
 /// The name that a field is.
 pub fn name(field: &[u8]) -> Option<&str>
@@ -27,7 +25,7 @@ pub fn name(field: &[u8]) -> Option<&str>
 fn is_name(field: &[u8]) -> bool
     ensures { IsTrue result ↔ IsName field.now }
 {
-    if !begins_with_letter(field) || field.len() > MOST_BYTES {
+    if !begins_with_letter(field) || field.len() > LONGEST_NAME {
         return false;
     }
     if field == b"none".as_slice() {

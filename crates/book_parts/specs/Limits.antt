@@ -1,8 +1,9 @@
 -- The limits of what a book says, each in one place.
-use Rattle.std.specs.Prelude.{◌≡◌, ℕ, ◌≤◌, ◌^◌, ℤ, pos, neg_ℤ, ◌≤ℤ◌, ◌+ℤ◌, ◌*ℤ◌, List, ◌∷◌, length, codes, ◌≢◌, Bool, true, false, ◌&&◌, ◌||◌, nat_le, ◌==◌, []}
+use Rattle.std.specs.Prelude.{◌≡◌, ℕ, ◌≤◌, ℤ, pos, neg_ℤ, nat_abs, ◌≤ℤ◌, ◌+ℤ◌, ◌*ℤ◌, List, ◌∷◌, length, codes, ◌≢◌, Bool, true, false, ◌&&◌, ◌||◌, nat_le, ◌==◌, []}
 use Rattle.std.specs.List.{list_all}
 use Rattle.life_plane.specs.Plane.{Plane}
-use Rattle.book_parts.specs.declared.limits.TheConstants.{GREATEST_COORDINATE, MOST_LANES, MOST_GAPS, LONGEST_DELAY, LEAST_APPROACH, GREATEST_APPROACH, GREATEST_WALL, WALL_MARGIN, GREATEST_REACH, GREATEST_ROOM, GREATEST_SPAN, LEAST_GAP}
+use Rattle.life_plane.specs.Tracks.{gap}
+use Rattle.book_parts.specs.declared.limits.TheConstants.{GREATEST_COORDINATE, MOST_LANES, MOST_GAPS, LONGEST_DELAY, LEAST_APPROACH, GREATEST_APPROACH, GREATEST_WALL, WALL_MARGIN, GREATEST_REACH, GREATEST_ROOM, GREATEST_SPAN, LONGEST_NAME}
 use Rattle.book_parts.specs.declared.settings.Settings.{Settings}
 use Rattle.book_parts.specs.declared.settings.Range.{Range}
 
@@ -10,6 +11,10 @@ use Rattle.book_parts.specs.declared.settings.Range.{Range}
 pub record IsFrom (least greatest z : ℤ) : Type 0 where
   pub low : least ≤ℤ z
   pub high : z ≤ℤ greatest
+
+-- how far from (0,0) a place of a book may be, right or left and up or down
+abbrev pub farthest : ℕ
+farthest = nat_abs GREATEST_COORDINATE
 
 -- coordinates, shifts and lanes in a book lie from -2^30 to 2^30
 abbrev pub IsCoordinate : ℤ → Type 0
@@ -34,9 +39,9 @@ pub record AreLanes (range : Range) : Type 0 where
   pub some : 1 ≤ range.len
   pub few : range.len ≤ MOST_LANES
 
--- the finder's gaps: 20 at most LOW, LOW at most HIGH, HIGH at most 65,536, and at most 63 of them in a list
+-- the finder's gaps: a stream's gap at most LOW, LOW at most HIGH, HIGH at most 65,536, and at most 63 of them in a list
 pub record AreGaps (range : Range) : Type 0 where
-  pub low : LEAST_GAP ≤ℤ range.low
+  pub low : pos gap ≤ℤ range.low
   pub order : range.low ≤ℤ range.high
   pub high : range.high ≤ℤ LONGEST_DELAY
   pub few : range.len ≤ MOST_GAPS
@@ -68,6 +73,6 @@ begins_with_letter (b ∷ bs) = is_letter b
 -- a name: from 1 to 32 letters, digits and `_`, the first a letter, and not `none`
 pub record IsName (text : List ℕ) : Type 0 where
   pub first : begins_with_letter text ≡ true
-  pub short : length text ≤ 32
+  pub short : length text ≤ LONGEST_NAME
   pub bytes : list_all is_name_byte text ≡ true
   pub other : text ≢ codes "none"

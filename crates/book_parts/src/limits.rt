@@ -1,5 +1,8 @@
 //! The limits of what a book says, each named once.
 
+ghost use Rattle.std.specs.Prelude.{◌≡◌, pos};
+ghost use Rattle.life_plane.specs.Tracks.{gap};
+
 /// The most kinds of elbow.
 pub const MOST_KINDS: u64 = 256;
 
@@ -17,6 +20,9 @@ pub const MOST_GAPS: u64 = 63;
 
 /// The most lanes of a salvo.
 pub const MOST_LANES: u64 = 64;
+
+/// The most bytes of a name.
+pub const LONGEST_NAME: usize = 32;
 
 /// The most live cells of all bodies.
 pub const MOST_CELLS: u64 = 1 << 18;
@@ -56,3 +62,8 @@ pub const GREATEST_SPAN: i64 = 1 << 27;
 
 /// The least gap between two gliders of a stream, in generations.
 pub const LEAST_GAP: i64 = 20;
+
+/// The least gap of books is the gap of streams, of which definitions speak.
+pub fn least_gap_is_that_of_streams()
+    ensures { LEAST_GAP ≡ pos gap }
+{}

@@ -1,5 +1,5 @@
 -- From the parts of a text to the text.
-use Rattle.std.proofs.Common.{◌≡◌, ◌≢◌, ℕ, pos, ◌+ℤ◌, ◌≤ℤ◌, List, [], Result, Ok, Err, IfOk, IfErr, sym, subst}
+use Rattle.std.proofs.Common.{◌≡◌, ◌≢◌, ℕ, ◌+ℤ◌, ◌≤ℤ◌, List, [], Result, Ok, Err, IfOk, IfErr, sym, subst}
 use Rattle.std.specs.Str.Lines.{lines}
 use Rattle.book_parts.specs.Proper.{IsProperBook}
 use Rattle.book_read.proofs.Sound.{text_proper}
@@ -11,6 +11,7 @@ use Rattle.book_read.specs.Stated.{Stated, nothing_stated}
 use Rattle.book_read.specs.Reading.{AreFine, IsBegun}
 use Rattle.book_read.specs.Book.{Said, whole, AreRead, Says, StopsWith}
 use Rattle.book_read.specs.Drafted.{IsBodyRefusal, IsVersionRefusal, IsUnfinished}
+use Rattle.book_parts.specs.declared.limits.TheConstants.{WALL_MARGIN}
 
 pub begun_refused : (text : List ℕ) (e : BookError) → IsVersionRefusal (lines text) e → StopsWith text e
 begun_refused text Memory h = tt
@@ -56,6 +57,6 @@ pub finished_ok : (text : List ℕ) (stated : Stated) (r : Result Said BookError
 finished_ok text stated (Ok book) read h = record { read = subst (λ (s : Stated). AreRead (lines text) s) h.0 read; some_kind = h.1 }
 finished_ok text stated (Err e) read h = tt
 
-pub finished_proper : (text : List ℕ) (r : Result Said BookError) → IfOk r (λ book. Says text book) → IfOk r (λ book. (book.settings.wall +ℤ pos 9) ≤ℤ book.settings.reach) → IfOk r (λ book. IsProperBook book)
+pub finished_proper : (text : List ℕ) (r : Result Said BookError) → IfOk r (λ book. Says text book) → IfOk r (λ book. (book.settings.wall +ℤ WALL_MARGIN) ≤ℤ book.settings.reach) → IfOk r (λ book. IsProperBook book)
 finished_proper text (Ok book) h far = text_proper text book h far
 finished_proper text (Err e) h far = tt

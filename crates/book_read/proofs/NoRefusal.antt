@@ -1,5 +1,5 @@
 -- A text that says a book has no refusal.
-use Rattle.std.proofs.Common.{◌≡◌, ◌≢◌, ℕ, ℤ, pos, ◌+ℤ◌, ◌≤ℤ◌, List, [], ◌∷◌, ◌++◌, Some, None, inl, inr, refl, sym, ap, ◌∙◌, subst, arith}
+use Rattle.std.proofs.Common.{◌≡◌, ◌≢◌, ℕ, ℤ, ◌+ℤ◌, ◌≤ℤ◌, List, [], ◌∷◌, ◌++◌, Some, None, inl, inr, refl, sym, ap, ◌∙◌, subst, arith}
 use Rattle.std.specs.List.{AllByRecursion}
 use Rattle.std.specs.Str.Lines.{lines}
 use Rattle.std.proofs.lemmas.Int.{ints}
@@ -17,6 +17,7 @@ use Rattle.book_read.specs.Reading.{AreFine, IsRefused, IsVersion, IsBegun, HasN
 use Rattle.book_read.specs.Book.{Said, whole, Says, StopsInLine, StopsWith}
 use Rattle.book_read.proofs.LineLaws.{LineLaws}
 use Rattle.book_read.proofs.OneBook.{heads_once, begun_once, fine_once, read_once, whole_once, version_other}
+use Rattle.book_parts.specs.declared.limits.TheConstants.{WALL_MARGIN}
 
 -- ---- a fine line is not refused
 
@@ -93,7 +94,7 @@ in_line laws text said e says stops =
     let r = begun_once (lines text) says.read.number stops.number says.read.body stops.body says.read.begun stops.begun in
     among_none laws stops.number stops.body (whole said) e (subst (λ (body : List (List ℕ)). AreFine nothing_stated body (whole said)) r.1 says.read.fine) stops.refused
 
-pub no_refusal : (laws : LineLaws) (text : List ℕ) (said : Said) (e : BookError) → Says text said → (said.settings.wall +ℤ pos 9) ≤ℤ said.settings.reach → StopsWith text e → e ≡ Memory
+pub no_refusal : (laws : LineLaws) (text : List ℕ) (said : Said) (e : BookError) → Says text said → (said.settings.wall +ℤ WALL_MARGIN) ≤ℤ said.settings.reach → StopsWith text e → e ≡ Memory
 no_refusal laws text said Memory says far h = refl
 no_refusal laws text said (BadLine line fault.Version) says far h = absurd (version_there (lines text) says.read.number line says.read.body says.read.begun h)
 no_refusal laws text said (BadLine line fault.Word) says far h = absurd (in_line laws text said _ says h)

@@ -6,6 +6,7 @@ use mir.Val.{of_z}
 use Rattle.std.proofs.lemmas.Int.{ints}
 use Rattle.std.proofs.lemmas.Bool.Decides.{nat_tests}
 use Rattle.book_parts.specs.Limits.{IsFrom, IsApproach}
+use Rattle.book_parts.specs.declared.limits.TheConstants.{LEAST_APPROACH, GREATEST_APPROACH}
 
 zero_test : (n : ℕ) → nat_eq n 0 ≡ true → n ≡ 0
 zero_test n e = grind (arith, nat_tests)
@@ -13,7 +14,7 @@ zero_test n e = grind (arith, nat_tests)
 zero_tested : (n : ℕ) → n ≡ 0 → nat_eq n 0 ≡ true
 zero_tested n e = grind (arith, nat_tests)
 
-pub approach_is : (z : ℤ) → IsFrom (pos 20) (pos 4096) z → nat_eq (of_z w64 (rem_z z (pos 4))) 0 ≡ true → IsApproach z
+pub approach_is : (z : ℤ) → IsFrom LEAST_APPROACH GREATEST_APPROACH z → nat_eq (of_z w64 (rem_z z (pos 4))) 0 ≡ true → IsApproach z
 approach_is (pos n) within e =
     let r : n % 4 ≡ 0 = zero_test (n % 4) e in
     record { range = within; quarters = pos (n / 4); multiple = omega (arith, ints) }

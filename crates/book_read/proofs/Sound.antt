@@ -50,7 +50,7 @@ use Rattle.book_read.specs.declared.limit.Limit.TheVariants as limit
 use Rattle.book_read.specs.Joining.{IsFine}
 use Rattle.book_read.specs.Reading.{AreFine}
 use Rattle.book_read.proofs.Counted.{front_none}
-use Rattle.book_parts.specs.declared.limits.TheConstants.{GREATEST_REACH, GREATEST_ROOM, GREATEST_SPAN, GREATEST_WALL, LONGEST_TURN, MOST_CELLS, MOST_GAPS, MOST_KINDS, MOST_LANES, MOST_SALVOS, MOST_TURNS}
+use Rattle.book_parts.specs.declared.limits.TheConstants.{GREATEST_REACH, GREATEST_ROOM, GREATEST_SPAN, GREATEST_WALL, LONGEST_TURN, MOST_CELLS, MOST_GAPS, MOST_KINDS, MOST_LANES, MOST_SALVOS, MOST_TURNS, WALL_MARGIN}
 
 -- the first of numbers within their limits is within its
 pub first_within : (n : Limited) (ns : List Limited) → IsFirstOutside (n ∷ ns) None → IsWithin n.limit n.number × IsFirstOutside ns None
@@ -489,7 +489,7 @@ some_kinds [] h = absurd (h refl)
 some_kinds (k ∷ kinds) h = omega arith
 
 -- what a text says is proper, where the reach is far enough
-pub text_proper : (text : List ℕ) (said : Said) → Says text said → (said.settings.wall +ℤ pos 9) ≤ℤ said.settings.reach → IsProperBook said
+pub text_proper : (text : List ℕ) (said : Said) → Says text said → (said.settings.wall +ℤ WALL_MARGIN) ≤ℤ said.settings.reach → IsProperBook said
 text_proper text said says far =
     let sound = sound_fine nothing_stated says.read.body (whole said) nothing_sound says.read.fine in
     let s = sound.settings in

@@ -10,6 +10,7 @@ use Rattle.book_parts.specs.declared.settings.Settings.{Settings}
 use Rattle.book_read.specs.declared.draft.Draft.{Draft}
 use Rattle.book_read.specs.Book.{Said, whole}
 use Rattle.book_read.specs.Drafted.{stated_of, HasSettings}
+use Rattle.book_parts.specs.declared.limits.TheConstants.{GREATEST_WALL, WALL_MARGIN}
 
 abbrev pub said_of : Draft → Settings → Cells → ℕ → Said
 said_of draft settings hand start =
@@ -42,33 +43,33 @@ some_item xs e f = let n : length xs ≡ 0 = ap length f in let t : false ≡ tr
 
 -- ---- the reach and the wall
 
-small_fits : (z : ℤ) → pos 1 ≤ℤ z → z ≤ℤ pos 65545 → SFits w64 z
+small_fits : (z : ℤ) → pos 1 ≤ℤ z → z ≤ℤ (GREATEST_WALL +ℤ WALL_MARGIN) → SFits w64 z
 small_fits (pos n) low high = record { sfits = omega (arith, ints) }
 small_fits (negsuc n) low high = absurd (omega (arith, ints))
 
 -- what the test of the reach says
-pub reach_near : (wall reach : ℤ) → IsFrom (pos 1) (pos 4096) wall → SFits w64 reach
-    → lt_z (to_z w64 (of_z w64 reach)) (to_z w64 (of_z w64 (to_z w64 (of_z w64 wall) +ℤ pos 9))) ≡ true → reach <ℤ (wall +ℤ pos 9)
+pub reach_near : (wall reach : ℤ) → IsFrom (pos 1) GREATEST_WALL wall → SFits w64 reach
+    → lt_z (to_z w64 (of_z w64 reach)) (to_z w64 (of_z w64 (to_z w64 (of_z w64 wall) +ℤ WALL_MARGIN))) ≡ true → reach <ℤ (wall +ℤ WALL_MARGIN)
 reach_near wall reach h fits e =
     let low = h.low in
     let high = h.high in
     let fits_wall : SFits w64 wall = small_fits wall low (omega (arith, ints)) in
-    let fits_sum : SFits w64 (wall +ℤ pos 9) = small_fits (wall +ℤ pos 9) (omega (arith, ints)) (omega (arith, ints)) in
-    let test = rw (to_z-of_z w64 reach fits, to_z-of_z w64 wall fits_wall, to_z-of_z w64 (wall +ℤ pos 9) fits_sum) at e in
-    tested reach (wall +ℤ pos 9) test
+    let fits_sum : SFits w64 (wall +ℤ WALL_MARGIN) = small_fits (wall +ℤ WALL_MARGIN) (omega (arith, ints)) (omega (arith, ints)) in
+    let test = rw (to_z-of_z w64 reach fits, to_z-of_z w64 wall fits_wall, to_z-of_z w64 (wall +ℤ WALL_MARGIN) fits_sum) at e in
+    tested reach (wall +ℤ WALL_MARGIN) test
   where
     tested : (a b : ℤ) → lt_z a b ≡ true → a <ℤ b
     tested a b e = grind (arith, ints)
 
-pub reach_far : (wall reach : ℤ) → IsFrom (pos 1) (pos 4096) wall → SFits w64 reach
-    → lt_z (to_z w64 (of_z w64 reach)) (to_z w64 (of_z w64 (to_z w64 (of_z w64 wall) +ℤ pos 9))) ≡ false → (wall +ℤ pos 9) ≤ℤ reach
+pub reach_far : (wall reach : ℤ) → IsFrom (pos 1) GREATEST_WALL wall → SFits w64 reach
+    → lt_z (to_z w64 (of_z w64 reach)) (to_z w64 (of_z w64 (to_z w64 (of_z w64 wall) +ℤ WALL_MARGIN))) ≡ false → (wall +ℤ WALL_MARGIN) ≤ℤ reach
 reach_far wall reach h fits e =
     let low = h.low in
     let high = h.high in
     let fits_wall : SFits w64 wall = small_fits wall low (omega (arith, ints)) in
-    let fits_sum : SFits w64 (wall +ℤ pos 9) = small_fits (wall +ℤ pos 9) (omega (arith, ints)) (omega (arith, ints)) in
-    let test = rw (to_z-of_z w64 reach fits, to_z-of_z w64 wall fits_wall, to_z-of_z w64 (wall +ℤ pos 9) fits_sum) at e in
-    tested reach (wall +ℤ pos 9) test
+    let fits_sum : SFits w64 (wall +ℤ WALL_MARGIN) = small_fits (wall +ℤ WALL_MARGIN) (omega (arith, ints)) (omega (arith, ints)) in
+    let test = rw (to_z-of_z w64 reach fits, to_z-of_z w64 wall fits_wall, to_z-of_z w64 (wall +ℤ WALL_MARGIN) fits_sum) at e in
+    tested reach (wall +ℤ WALL_MARGIN) test
   where
     tested : (a b : ℤ) → lt_z a b ≡ false → b ≤ℤ a
     tested a b e = grind (arith, ints)

@@ -1,9 +1,10 @@
 -- The limits of a line's numbers, and of the counts that it raises.
 use Rattle.std.specs.Prelude.{◌≡◌, ℕ, ◌+◌, ◌⊎◌, ℤ, pos, ◌≤ℤ◌, List, [], ◌∷◌, ◌++◌, length, map, sum_by, flat_map, Option}
 use Rattle.std.specs.declared.option.Option.TheVariants.{Some, None}
+use Rattle.life_plane.specs.Tracks.{gap}
 use Rattle.life_cells.specs.Cells.{Cells, in_order}
 use Rattle.life_cells.specs.declared.cell.Cell.{Cell}
-use Rattle.book_parts.specs.declared.limits.TheConstants.{MOST_KINDS, MOST_TURNS, MOST_SALVOS, MOST_DELAYS, MOST_GAPS, MOST_LANES, MOST_CELLS, LONGEST_DELAY, LONGEST_TURN, GREATEST_WALL, GREATEST_REACH, GREATEST_ROOM, GREATEST_SPAN, LEAST_GAP}
+use Rattle.book_parts.specs.declared.limits.TheConstants.{MOST_KINDS, MOST_TURNS, MOST_SALVOS, MOST_DELAYS, MOST_GAPS, MOST_LANES, MOST_CELLS, LONGEST_DELAY, LONGEST_TURN, GREATEST_WALL, GREATEST_REACH, GREATEST_ROOM, GREATEST_SPAN}
 use Rattle.book_parts.specs.Limits.{IsFrom, IsCoordinate, IsApproach}
 use Rattle.book_parts.specs.Proper.{IsDelay, IsIndex}
 use Rattle.book_parts.specs.declared.kind.RawKind.{RawKind}
@@ -29,7 +30,7 @@ IsWithin limit.Coordinate z = IsCoordinate z
 IsWithin limit.Room z = IsFrom (pos 0) GREATEST_ROOM z
 IsWithin limit.Span z = IsFrom (pos 0) GREATEST_SPAN z
 IsWithin limit.LanesLength z = IsFrom (pos 1) (pos MOST_LANES) z
-IsWithin limit.LeastGap z = LEAST_GAP ≤ℤ z
+IsWithin limit.LeastGap z = pos gap ≤ℤ z
 IsWithin limit.GreatestGap z = z ≤ℤ LONGEST_DELAY
 IsWithin limit.GapsLength z = IsFrom (pos 0) (pos MOST_GAPS) z
 IsWithin limit.Time z = IsFrom (pos 0) (pos LONGEST_TURN) z

@@ -25,6 +25,7 @@ use Rattle.life_rle.specs.ByteLaws.{all_append, decimal_passes, small_fits}
 use Rattle.life_rle.specs.SpellingLaws.{word_means, word_spelled, word_whole}
 use Rattle.life_rle.specs.WrittenFineLaws.{IsNearHalf, written_fine, written_small}
 use Rattle.book_write.proofs.Visible.{is_visible, digit_visible, IsWord}
+use Rattle.book_parts.specs.declared.limits.TheConstants.{MOST_CELLS}
 
 -- ---- the bytes of a word
 
@@ -67,7 +68,7 @@ origin_near : IsNearHalf origin
 origin_near = record { left = omega (arith, ints); right = omega (arith, ints); top = omega (arith, ints); bottom = omega (arith, ints) }
 
 -- the body word of at most 2^18 cells, moved to where their coordinates are at most 2^31, reads back
-module _ (s : Cells) (dx dy : ℤ) (word : List ℕ) (t : IsBodyText (shift dx dy (alive s)) word) (range : IsInRange (2 ^ 31) (shift dx dy (alive s))) (few : length (in_order s) ≤ 2 ^ 18) where
+module _ (s : Cells) (dx dy : ℤ) (word : List ℕ) (t : IsBodyText (shift dx dy (alive s)) word) (range : IsInRange (2 ^ 31) (shift dx dy (alive s))) (few : length (in_order s) ≤ MOST_CELLS) where
   moves : listed (map (moved dx dy) (in_order s)) ≡ shift dx dy (alive s)
   moves = same_plane _ _ (λ x y. listed-moved dx dy (in_order s) x y ∙ ap (λ (p : Plane). p (x -ℤ dx) (y -ℤ dy)) (sym (alive-in_order s)))
 
@@ -80,7 +81,7 @@ module _ (s : Cells) (dx dy : ℤ) (word : List ℕ) (t : IsBodyText (shift dx d
   near : IsInRange (2 ^ 39) (listed (map (moved dx dy) (in_order s)))
   near = subst (λ (p : Plane). IsInRange (2 ^ 39) p) (sym moves) (half_range _ range)
 
-  many : length (map (moved dx dy) (in_order s)) ≤ 2 ^ 18
+  many : length (map (moved dx dy) (in_order s)) ≤ MOST_CELLS
   many = omega (arith, length-map (in_order s) (moved dx dy))
 
   fine : AreFineFrom origin t.items

@@ -37,6 +37,7 @@ use Rattle.book_write.proofs.Within.{IsHeld, AreFew, not_over, each_held, body_h
 use Rattle.book_write.proofs.Stating.{IsLineFor, approach_line, wall_line, reach_line, corner_line, room_line, span_line, lanes_line, delays_line, IsShortRange, short_coordinate, spread_of, hand_line, elbow_of, kind_line, start_line, leaves_of, turn_told, HasNext, turn_line, salvo_told, salvo_line}
 use Rattle.book_write.proofs.Distinct.{none_before, kind_known, name_of_kind}
 use Rattle.life_plane.specs.ListLaws.{all_append}
+use Rattle.book_parts.specs.declared.limits.TheConstants.{MOST_CELLS, MOST_LANES, MOST_GAPS, LONGEST_TURN, LEAST_APPROACH, GREATEST_APPROACH, GREATEST_WALL, GREATEST_REACH, GREATEST_ROOM, GREATEST_SPAN}
 
 -- ---- lines behind what is stated
 
@@ -88,7 +89,7 @@ told book kinds start turns salvos = record {
 near_number : (least greatest z : ℤ) → IsFrom least greatest z → neg_ℤ (pos (2 ^ 40)) ≤ℤ least → greatest ≤ℤ pos (2 ^ 40) → IsShort z
 near_number least greatest z h a b = let low = h.low in let high = h.high in short_from z (omega (arith, ints)) (omega (arith, ints))
 
-reach_held : (s : Settings) → AreProper s → IsFrom (pos 1) (pos 65536) s.reach
+reach_held : (s : Settings) → AreProper s → IsFrom (pos 1) GREATEST_REACH s.reach
 reach_held s p = let low = p.reach.low in let high = p.reach.high in let wall = p.wall.low in record { low = omega (arith, ints); high = high }
 
 lanes_short : (s : Settings) → AreProper s → IsShortRange s.lanes
@@ -108,10 +109,10 @@ zero_few : (a : Stated) (s : Statement) → length (joined a s).kinds ≡ 0 → 
 zero_few a s k t v d l c = record { kinds = omega arith; turns = omega arith; salvos = omega arith; delays = omega arith; lanes = omega arith; cells = omega arith }
 
 -- and where but these cells are counted
-one_few : (a : Stated) (s : Statement) (n : ℕ) → length (joined a s).kinds ≡ 0 → length (joined a s).turns ≡ 0 → length (joined a s).salvos ≡ 0 → delay_count s ≡ 0 → lane_count s ≡ 0 → stated_cells a + cell_count s ≡ n → n ≤ 2 ^ 18 → AreFew a s
+one_few : (a : Stated) (s : Statement) (n : ℕ) → length (joined a s).kinds ≡ 0 → length (joined a s).turns ≡ 0 → length (joined a s).salvos ≡ 0 → delay_count s ≡ 0 → lane_count s ≡ 0 → stated_cells a + cell_count s ≡ n → n ≤ MOST_CELLS → AreFew a s
 one_few a s n k t v d l c h = record { kinds = omega arith; turns = omega arith; salvos = omega arith; delays = omega arith; lanes = omega arith; cells = omega arith }
 
-hand_few : (book : Said) → IsProperBook book → length (in_order book.hand) ≤ 2 ^ 18
+hand_few : (book : Said) → IsProperBook book → length (in_order book.hand) ≤ MOST_CELLS
 hand_few book p = let few = p.few_cells in omega arith
 
 settings_fine : (book : Said) (hand : List (List ℕ)) → IsProperBook book → IsHandLine book.hand hand → AreFineFor nothing_stated (settings_words book.settings ++ (hand ∷ [])) (told book [] None [] [])
@@ -127,14 +128,14 @@ settings_fine book hand p h =
     let a6 : Stated = joined a5 (Span s.span) in
     let a7 : Stated = joined a6 (Lanes (spread_of s.lanes)) in
     let a8 : Stated = joined a7 (Delays (spread_of s.delays)) in
-    line_first nothing_stated _ _ (Approach s.approach) _ (approach_line s.approach (near_number (pos 20) (pos 4096) s.approach q.approach.range (omega (arith, ints)) (omega (arith, ints)))) refl tt (not_over nothing_stated (Approach s.approach) (q.approach, tt) (zero_few nothing_stated (Approach s.approach) refl refl refl refl refl refl))
-    (line_first a1 _ _ (Wall s.wall) _ (wall_line s.wall (near_number (pos 1) (pos 4096) s.wall q.wall (omega (arith, ints)) (omega (arith, ints)))) refl tt (not_over a1 (Wall s.wall) (q.wall, tt) (zero_few a1 (Wall s.wall) refl refl refl refl refl refl))
-    (line_first a2 _ _ (Reach s.reach) _ (reach_line s.reach (near_number (pos 1) (pos 65536) s.reach (reach_held s q) (omega (arith, ints)) (omega (arith, ints)))) refl tt (not_over a2 (Reach s.reach) (reach_held s q, tt) (zero_few a2 (Reach s.reach) refl refl refl refl refl refl))
+    line_first nothing_stated _ _ (Approach s.approach) _ (approach_line s.approach (near_number LEAST_APPROACH GREATEST_APPROACH s.approach q.approach.range (omega (arith, ints)) (omega (arith, ints)))) refl tt (not_over nothing_stated (Approach s.approach) (q.approach, tt) (zero_few nothing_stated (Approach s.approach) refl refl refl refl refl refl))
+    (line_first a1 _ _ (Wall s.wall) _ (wall_line s.wall (near_number (pos 1) GREATEST_WALL s.wall q.wall (omega (arith, ints)) (omega (arith, ints)))) refl tt (not_over a1 (Wall s.wall) (q.wall, tt) (zero_few a1 (Wall s.wall) refl refl refl refl refl refl))
+    (line_first a2 _ _ (Reach s.reach) _ (reach_line s.reach (near_number (pos 1) GREATEST_REACH s.reach (reach_held s q) (omega (arith, ints)) (omega (arith, ints)))) refl tt (not_over a2 (Reach s.reach) (reach_held s q, tt) (zero_few a2 (Reach s.reach) refl refl refl refl refl refl))
     (line_first a3 _ _ (Corner s.corner) _ (corner_line s.corner (short_coordinate s.corner.x q.corner_x) (short_coordinate s.corner.y q.corner_y)) refl tt (not_over a3 (Corner s.corner) (q.corner_x, (q.corner_y, tt)) (zero_few a3 (Corner s.corner) refl refl refl refl refl refl))
-    (line_first a4 _ _ (Room s.room) _ (room_line s.room (near_number (pos 0) (pos 512) s.room q.room (omega (arith, ints)) (omega (arith, ints)))) refl tt (not_over a4 (Room s.room) (q.room, tt) (zero_few a4 (Room s.room) refl refl refl refl refl refl))
-    (line_first a5 _ _ (Span s.span) _ (span_line s.span (near_number (pos 0) (pos (2 ^ 27)) s.span q.span (omega (arith, ints)) (omega (arith, ints)))) refl tt (not_over a5 (Span s.span) (q.span, tt) (zero_few a5 (Span s.span) refl refl refl refl refl refl))
-    (line_first a6 _ _ (Lanes (spread_of s.lanes)) _ (lanes_line s.lanes (lanes_short s q)) refl tt (not_over a6 (Lanes (spread_of s.lanes)) (q.lanes.low, (q.lanes.high, (len_held 1 64 s.lanes.len q.lanes.some q.lanes.few, tt))) (zero_few a6 (Lanes (spread_of s.lanes)) refl refl refl refl refl refl))
-    (line_first a7 _ _ (Delays (spread_of s.delays)) _ (delays_line s.delays (delays_short s q)) refl tt (not_over a7 (Delays (spread_of s.delays)) (q.delays.low, (q.delays.high, (len_held 0 63 s.delays.len (omega arith) q.delays.few, tt))) (zero_few a7 (Delays (spread_of s.delays)) refl refl refl refl refl refl))
+    (line_first a4 _ _ (Room s.room) _ (room_line s.room (near_number (pos 0) GREATEST_ROOM s.room q.room (omega (arith, ints)) (omega (arith, ints)))) refl tt (not_over a4 (Room s.room) (q.room, tt) (zero_few a4 (Room s.room) refl refl refl refl refl refl))
+    (line_first a5 _ _ (Span s.span) _ (span_line s.span (near_number (pos 0) GREATEST_SPAN s.span q.span (omega (arith, ints)) (omega (arith, ints)))) refl tt (not_over a5 (Span s.span) (q.span, tt) (zero_few a5 (Span s.span) refl refl refl refl refl refl))
+    (line_first a6 _ _ (Lanes (spread_of s.lanes)) _ (lanes_line s.lanes (lanes_short s q)) refl tt (not_over a6 (Lanes (spread_of s.lanes)) (q.lanes.low, (q.lanes.high, (len_held 1 MOST_LANES s.lanes.len q.lanes.some q.lanes.few, tt))) (zero_few a6 (Lanes (spread_of s.lanes)) refl refl refl refl refl refl))
+    (line_first a7 _ _ (Delays (spread_of s.delays)) _ (delays_line s.delays (delays_short s q)) refl tt (not_over a7 (Delays (spread_of s.delays)) (q.delays.low, (q.delays.high, (len_held 0 MOST_GAPS s.delays.len (omega arith) q.delays.few, tt))) (zero_few a7 (Delays (spread_of s.delays)) refl refl refl refl refl refl))
     (line_first a8 _ _ (Hand (Drawn book.hand)) _ (hand_line book.hand hand h p.hand cells) refl tt (not_over a8 (Hand (Drawn book.hand)) (body_held book.hand p.hand.placed) (one_few a8 (Hand (Drawn book.hand)) (length (in_order book.hand)) refl refl refl refl refl (zero-add (length (in_order book.hand))) cells))
     (no_lines _ _ refl)))))))))
 
@@ -195,10 +196,10 @@ turn_back kinds turn p d =
     let end = end_back kinds turn.end p.leaves d in
     λ i. record { name = turn.name; kind = kind i; end = end i; n = turn.n; delays = turn.delays }
 
-ending_held : (kinds : List RawKind) (end : TurnEnd) (n : ℕ) → IsProperEnd (length kinds) end → n ≤ 65536 → AllByRecursion IsHeld (leaves_numbers (leaves_of kinds end) (pos n))
-ending_held kinds ending.Close n p h = (len_held 0 65536 n (omega arith) h, tt)
-ending_held kinds (ending.Move kind shift) n p h = (p.1, (len_held 0 65536 n (omega arith) h, tt))
-ending_held kinds (ending.Emit kind shift lane j) n p h = (p.1.0, (len_held 0 65536 n (omega arith) h, (p.1.1.0, (p.1.1.1, tt))))
+ending_held : (kinds : List RawKind) (end : TurnEnd) (n : ℕ) → IsProperEnd (length kinds) end → n ≤ LONGEST_TURN → AllByRecursion IsHeld (leaves_numbers (leaves_of kinds end) (pos n))
+ending_held kinds ending.Close n p h = (len_held 0 LONGEST_TURN n (omega arith) h, tt)
+ending_held kinds (ending.Move kind shift) n p h = (p.1, (len_held 0 LONGEST_TURN n (omega arith) h, tt))
+ending_held kinds (ending.Emit kind shift lane j) n p h = (p.1.0, (len_held 0 LONGEST_TURN n (omega arith) h, (p.1.1.0, (p.1.1.1, tt))))
 
 turns_fine : (book : Said) → IsProperBook book → (front back : List RawTurn) → book.turns ≡ front ++ back → AllByRecursion (IsProperTurn (length book.kinds)) back
     → AreFineFor (told book book.kinds (Some book.start) front []) (map (turn_words book.kinds) back) (told book book.kinds (Some book.start) book.turns [])

@@ -1,16 +1,17 @@
 -- Cells moved to (0,0).
-use Rattle.std.proofs.Common.{◌≡◌, ℕ, ◌^◌, ℤ, pos, neg_ℤ, ◌-ℤ◌, ap, ◌∙◌, arith, inl, inr, List}
+use Rattle.std.proofs.Common.{◌≡◌, ℕ, ◌^◌, ℤ, neg_ℤ, ◌-ℤ◌, ap, ◌∙◌, arith, inl, inr, List}
 use Rattle.std.proofs.lemmas.Int.{ints}
 use Rattle.life_plane.specs.Plane.{Plane, nothing, shift}
 use Rattle.life_cells.specs.Boxes.{IsInRange, IsLeastBox}
 use Rattle.life_cells.specs.declared.bounds.Bounds.{Bounds}
 use Rattle.rle_items.specs.Words.{IsNotNegative}
-use Rattle.book_parts.specs.Limits.{IsCoordinate, IsPlaced}
+use Rattle.book_parts.specs.Limits.{IsCoordinate, IsPlaced, farthest}
 use Rattle.book_parts.specs.Proper.{HasLife}
 use Rattle.book_write.specs.Parts.{IsPlacedText, IsProductText}
+use Rattle.book_parts.specs.declared.limits.TheConstants.{GREATEST_COORDINATE}
 
 -- coordinates of a book are in a smaller range
-pub range_placed : (s : Plane) → IsPlaced s → IsInRange (2 ^ 30) s
+pub range_placed : (s : Plane) → IsPlaced s → IsInRange farthest s
 range_placed s p = record {
   x_low = λ x y h. (p.x x y h).low;
   x_high = λ x y h. (p.x x y h).high;
@@ -26,7 +27,7 @@ pub record IsNearBox (box : Bounds) : Type 0 where
 pub near_box : (s : Plane) (box : Bounds) → IsLeastBox box s → IsPlaced s → IsNearBox box
 near_box s box least p =
     let lives = least.lives in
-    let outer : Bounds = record { left = neg_ℤ (pos (2 ^ 30)); top = neg_ℤ (pos (2 ^ 30)); right = pos (2 ^ 30); bottom = pos (2 ^ 30) } in
+    let outer : Bounds = record { left = neg_ℤ GREATEST_COORDINATE; top = neg_ℤ GREATEST_COORDINATE; right = GREATEST_COORDINATE; bottom = GREATEST_COORDINATE } in
     let within = least.least outer (record { each = λ x y h. record { right_of_left = (p.x x y h).low; below_top = (p.y x y h).low; left_of_right = (p.x x y h).high; above_bottom = (p.y x y h).high } }) in
     let at = least.holds.each lives.0 lives.1.0 lives.1.1 in
     let x = p.x lives.0 lives.1.0 lives.1.1 in

@@ -12,7 +12,7 @@ use Rattle.life_cells.specs.Boxes.{IsInRange}
 use Rattle.life_cells.specs.BoxLaws.{range_wider}
 use Rattle.text_lines.specs.Blanks.{IsPassedOver}
 use Rattle.life_rle.specs.Written.{IsBodyText}
-use Rattle.book_parts.specs.Limits.{IsName, IsCoordinate, IsPlaced}
+use Rattle.book_parts.specs.Limits.{IsName, IsCoordinate, IsPlaced, farthest}
 use Rattle.book_parts.specs.Proper.{HasLife, IsProperEnd, IsProperTurn, IsProperKind, IsProperPlace, IsProperSalvo, IsProperHand, IsDelay, IsIndex}
 use Rattle.book_parts.specs.declared.settings.Range.{Range}
 use Rattle.book_parts.specs.declared.kind.RawKind.{RawKind}
@@ -48,6 +48,7 @@ use Rattle.book_write.proofs.Moving.{near_box, moved_range, range_placed}
 use Rattle.book_write.proofs.BodyWords.{IsReadBody, word_reads_back}
 use Rattle.book_write.proofs.Within.{IsHeld, body_held}
 use Rattle.life_plane.specs.ListLaws.{all_append}
+use Rattle.book_parts.specs.declared.limits.TheConstants.{MOST_CELLS, LONGEST_TURN}
 
 -- ---- a line and its words
 
@@ -177,11 +178,11 @@ not_moved : (s : Plane) → s ≡ shift (pos 0) (pos 0) s
 not_moved s = same_plane _ _ (λ x y. let a : x ≡ x -ℤ pos 0 = omega (arith, ints) in let b : y ≡ y -ℤ pos 0 = omega (arith, ints) in λ i. s (a i) (b i))
 
 -- what is read of a hand's line
-pub hand_line : (hand : Cells) (words : List (List ℕ)) → IsHandLine hand words → IsProperHand (alive hand) → length (in_order hand) ≤ 2 ^ 18 → IsLineFor words (Hand (Drawn hand))
+pub hand_line : (hand : Cells) (words : List (List ℕ)) → IsHandLine hand words → IsProperHand (alive hand) → length (in_order hand) ≤ MOST_CELLS → IsLineFor words (Hand (Drawn hand))
 hand_line hand words h p few =
     let still = not_moved (alive hand) in
     let drawn = h.drawn_is in
-    let range : IsInRange (2 ^ 31) (alive hand) = range_wider (2 ^ 30) (2 ^ 31) (alive hand) (range_placed (alive hand) p.placed) (lit≤ tt) in
+    let range : IsInRange (2 ^ 31) (alive hand) = range_wider farthest (2 ^ 31) (alive hand) (range_placed (alive hand) p.placed) (lit≤ tt) in
     let read = word_reads_back hand (pos 0) (pos 0) drawn.body (subst (λ (s : Plane). IsBodyText s drawn.body) still drawn.body_is) (subst (λ (s : Plane). IsInRange (2 ^ 31) s) still range) few in
     let items_are : IsBody Whole (Drawn hand) (drawn.body ∷ []) = record { word = drawn.body; items_are = refl; body_is = body_at hand (cell (pos 0) (pos 0)) drawn.body read p.lives } in
     subst (λ (ws : List (List ℕ)). IsLineFor ws (Hand (Drawn hand))) (sym (h.words_are ∙ ap (λ (ws : List (List ℕ)). codes "hand" ∷ ws) drawn.words_are))
@@ -202,7 +203,7 @@ pub record IsPlacedFor (s : Cells) (words : List (List ℕ)) : Type 0 where
   pub is : IsPlacedBody Whole (placed_of s box) words
   pub held_all : AllByRecursion IsHeld (placed_numbers (placed_of s box))
 
-pub placed_for : (s : Cells) (words : List (List ℕ)) → IsPlacedText (alive s) words → IsPlaced (alive s) → length (in_order s) ≤ 2 ^ 18 → IsPlacedFor s words
+pub placed_for : (s : Cells) (words : List (List ℕ)) → IsPlacedText (alive s) words → IsPlaced (alive s) → length (in_order s) ≤ MOST_CELLS → IsPlacedFor s words
 placed_for s words h p few =
     let box = h.box in
     let drawn = h.drawn_is in
@@ -233,7 +234,7 @@ pub record IsKindFor (kind : RawKind) (words : List (List ℕ)) : Type 0 where
   pub line : IsLineFor words (Elbow (elbow_of kind box))
   pub held_all : AllByRecursion IsHeld (placed_numbers (placed_of kind.cells box))
 
-pub kind_line : (kind : RawKind) (words : List (List ℕ)) → IsKindLine kind words → IsProperKind kind → length (in_order kind.cells) ≤ 2 ^ 18 → IsKindFor kind words
+pub kind_line : (kind : RawKind) (words : List (List ℕ)) → IsKindLine kind words → IsProperKind kind → length (in_order kind.cells) ≤ MOST_CELLS → IsKindFor kind words
 kind_line kind words h p few =
     let r = placed_for kind.cells h.placed h.placed_is p.placed few in
     let items_are : IsElbowLine Whole (elbow_of kind r.box) (kind.name ∷ h.placed) = record { behind = h.placed; items_are = refl; name_is = p.name; placed_is = r.is } in
@@ -263,7 +264,7 @@ HasNext kinds ending.Close = Unit {0}
 HasNext kinds (ending.Move kind shift) = IsName (kind_name kinds kind)
 HasNext kinds (ending.Emit kind shift lane j) = IsName (kind_name kinds kind)
 
-short_count : (n : ℕ) → n ≤ 65536 → IsShort (pos n)
+short_count : (n : ℕ) → n ≤ LONGEST_TURN → IsShort (pos n)
 short_count n h = omega arith
 
 short_index : (j : ℤ) → IsIndex j → IsShort j
@@ -295,7 +296,7 @@ record IsEndingFor (kinds : List RawKind) (end : TurnEnd) (n : ℕ) : Type 0 whe
   is : IsEnding Whole (leaves_of kinds end) (pos n) (ending_words kinds end n)
   each : AllByRecursion IsWord (ending_words kinds end n)
 
-ending_for : (kinds : List RawKind) (end : TurnEnd) (n : ℕ) → IsProperEnd (length kinds) end → HasNext kinds end → n ≤ 65536 → IsEndingFor kinds end n
+ending_for : (kinds : List RawKind) (end : TurnEnd) (n : ℕ) → IsProperEnd (length kinds) end → HasNext kinds end → n ≤ LONGEST_TURN → IsEndingFor kinds end n
 ending_for kinds ending.Close n p k h =
     let s = short_count n h in
     record { is = (decimal n ∷ [], (refl, record { text = decimal n; items_are = refl; number = number_at (pos n) s })); each = (word_of_close, (number_word (pos n) s, tt)) }
@@ -338,7 +339,7 @@ pub record IsProductFor (s : Cells) (words : List (List ℕ)) : Type 0 where
   pub held_all : AllByRecursion IsHeld (product_numbers product)
   pub count : product_count product ≡ length (in_order s)
 
-pub product_for : (s : Cells) (words : List (List ℕ)) → IsProductText (alive s) words → IsPlaced (alive s) → length (in_order s) ≤ 2 ^ 18 → IsProductFor s words
+pub product_for : (s : Cells) (words : List (List ℕ)) → IsProductText (alive s) words → IsPlaced (alive s) → length (in_order s) ≤ MOST_CELLS → IsProductFor s words
 product_for s words (inl none) p few =
     let same : empty ≡ s = same_cells empty s (alive-empty ∙ sym none.0) in
     record { product = None; is = none.1; each = subst (λ (ws : List (List ℕ)). AllByRecursion IsWord ws) (sym none.1) (none_word, tt); same = same; held_all = tt; count = sym (ap (λ (t : Cells). length (in_order t)) (sym same) ∙ ap length in_order-empty) }
@@ -370,7 +371,7 @@ pub record IsSalvoFor (salvo : RawSalvo) (words : List (List ℕ)) : Type 0 wher
   pub held_all : AllByRecursion IsHeld (product_numbers product)
   pub count : product_count product ≡ length (in_order salvo.product)
 
-pub salvo_line : (salvo : RawSalvo) (words : List (List ℕ)) → IsSalvoLine salvo words → IsProperSalvo salvo → length (in_order salvo.product) ≤ 2 ^ 18 → IsSalvoFor salvo words
+pub salvo_line : (salvo : RawSalvo) (words : List (List ℕ)) → IsSalvoLine salvo words → IsProperSalvo salvo → length (in_order salvo.product) ≤ MOST_CELLS → IsSalvoFor salvo words
 salvo_line salvo words h p few =
     let r = product_for salvo.product h.product h.product_is p.product few in
     let lanes = map signed_decimal salvo.lanes in

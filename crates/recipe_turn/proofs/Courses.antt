@@ -10,9 +10,10 @@ use Rattle.book_parts.specs.declared.settings.Settings.{Settings}
 use Rattle.book_parts.specs.declared.turn.RawTurn.{RawTurn}
 use Rattle.recipe_turn.specs.Turn.{gliders, turn_start}
 use Rattle.life_cells.specs.Firsts.{IsFirstDifferent}
+use Rattle.book_parts.specs.declared.limits.TheConstants.{LONGEST_TURN}
 
 -- how far the cells of a generation lie
-pub course_range : (start s : Plane) (t n : ℕ) → IsInRange (2 ^ 40) start → t ≤ 65536 → s ≡ run t start → 2 ^ 41 ≤ n → IsInRange n s
+pub course_range : (start s : Plane) (t n : ℕ) → IsInRange (2 ^ 40) start → t ≤ LONGEST_TURN → s ≡ run t start → 2 ^ 41 ≤ n → IsInRange n s
 course_range start s t n h le same wide = subst (IsInRange n) (sym same) (range_wider (2 ^ 40 + t) n _ (range_run t (2 ^ 40) start h) (omega arith))
 
 -- one generation on

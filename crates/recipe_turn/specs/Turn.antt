@@ -2,7 +2,7 @@
 use Rattle.std.specs.Prelude.{◌≡◌, true, ℕ, ◌≤◌, ℤ, pos, ◌+ℤ◌, ◌-ℤ◌, ◌*ℤ◌, ◌≤ℤ◌, ◌<ℤ◌, List, [], ◌∷◌, length}
 use Rattle.std.specs.Int.{int_div_euclid}
 use Rattle.std.specs.List.{AllByRecursion}
-use Rattle.book_parts.specs.Limits.{IsFrom}
+use Rattle.book_parts.specs.Proper.{IsDelay}
 use Rattle.life_plane.specs.Plane.{Plane, run, union, shift, nothing}
 use Rattle.life_plane.specs.Tracks.{gap, stream_glider}
 use Rattle.life_plane.specs.Salvo.{salvo_glider}
@@ -10,6 +10,7 @@ use Rattle.book_parts.specs.declared.settings.Settings.{Settings}
 use Rattle.book_parts.specs.declared.turn.RawTurn.{RawTurn}
 use Rattle.book_parts.specs.declared.turn.TurnEnd.{TurnEnd}
 use Rattle.book_parts.specs.declared.turn.TurnEnd.TheVariants.{Close, Move, Emit}
+use Rattle.book_parts.specs.declared.limits.TheConstants.{MOST_DELAYS, LONGEST_TURN}
 
 -- the turn's own gliders at time t, had they met nothing: for each delay one of index t - approach - delay
 abbrev pub gliders : Settings → List ℤ → ℤ → Plane
@@ -62,8 +63,8 @@ pub record IsSound (settings : Settings) (kind next : Plane) (turn : RawTurn) : 
   pub bounds : KeepsBounds settings turn.delays (turn_start settings kind turn) turn.n
   pub front : IsInFront settings turn.end
 
--- the numbers of a turn are within the limits of a book: at most 64 delays from 0 to 65,536, and at most 65,536 generations
+-- the numbers of a turn are within the limits of a book
 pub record AreFewDelays (turn : RawTurn) : Type 0 where
-  pub count : length turn.delays ≤ 64
-  pub range : AllByRecursion (λ delay. IsFrom (pos 0) (pos 65536) delay) turn.delays
-  pub n : turn.n ≤ 65536
+  pub count : length turn.delays ≤ MOST_DELAYS
+  pub range : AllByRecursion IsDelay turn.delays
+  pub n : turn.n ≤ LONGEST_TURN

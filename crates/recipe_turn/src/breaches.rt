@@ -9,6 +9,7 @@ ghost use Rattle.book_parts.specs.Limits.{AreProper};
 ghost use Rattle.recipe_turn.specs.Turn.{IsAheadOrOwn};
 ghost use Rattle.recipe_turn.specs.Breaches.{KeepsReach, IsKnown, AreKnown};
 ghost use Rattle.book_parts.specs.Proper.{IsDelay};
+ghost use Rattle.book_parts.specs.declared.limits.TheConstants.{LONGEST_TURN};
 
 use crate::limits::{first_behind, first_past_reach, is_clear};
 use book_parts::Settings;
@@ -51,7 +52,7 @@ impl Breaches {
     ) -> Result<Self, NoMemory>
         requires settings { AreProper settings.now }
         requires delays { AllByRecursion IsDelay delays.now }
-        requires time { generation ≤ 65536 }
+        requires time { generation ≤ LONGEST_TURN }
         requires range { IsInRange (2 ^ 41) (alive tiles.now) }
         ensures { IfOk result (λ after. (start : Plane) → alive tiles.now ≡ run generation start → AreKnown settings.now delays.now start generation self
             → AreKnown settings.now delays.now start (generation + 1) after) }
@@ -99,7 +100,7 @@ fn tail_breach(
 ) -> Option<Breach>
     requires settings { AreProper settings.now }
     requires delays { AllByRecursion IsDelay delays.now }
-    requires time { generation ≤ 65536 }
+    requires time { generation ≤ LONGEST_TURN }
     requires range { IsInRange (2 ^ 41) (alive cells.now) }
     ensures { (start : Plane) → alive cells.now ≡ run generation start → IsKnown (IsAheadOrOwn settings.now delays.now) start generation found
         → IsKnown (IsAheadOrOwn settings.now delays.now) start (generation + 1) result }

@@ -8,6 +8,7 @@ ghost use Rattle.life_cells.specs.Boxes.{IsInRange};
 ghost use Rattle.book_parts.specs.Limits.{AreProper};
 ghost use Rattle.recipe_turn.specs.Breaches.{AreKnown};
 ghost use Rattle.book_parts.specs.Proper.{IsDelay};
+ghost use Rattle.book_parts.specs.declared.limits.TheConstants.{LONGEST_TURN};
 
 use crate::breaches::Breaches;
 use book_parts::Settings;
@@ -37,7 +38,7 @@ pub(crate) fn evolve<L: Ledger>(
 ) -> Result<Course, NoMemory>
     requires settings { AreProper settings.now }
     requires delays { AllByRecursion IsDelay delays.now }
-    requires n { n ≤ 65536 }
+    requires n { n ≤ LONGEST_TURN }
     requires range { IsInRange (2 ^ 40) (alive start.now) }
     ensures last { IfOk result (λ course. alive course.last ≡ run n (alive start.now)) }
     ensures breaches { IfOk result (λ course. AreKnown settings.now delays.now (alive start.now) (n + 1) course.breaches) }

@@ -8,8 +8,9 @@ ghost use Rattle.recipe_turn.specs.Refusals.{GapsAreRefused};
 ghost use Rattle.book_parts.specs.Proper.{IsDelay};
 
 use crate::refusal::TurnRefusal;
+use book_parts::limits::LEAST_GAP;
 
-// The place, counted from 1, of the first delay that isn't 0 as the first or at least 20 more than the one before.
+// The place, counted from 1, of the first delay that isn't 0 as the first or at least a gap more than the one before.
 fn first_narrow(delays: &[i64]) -> Option<usize>
     requires delays { AllByRecursion IsDelay delays.now }
     requires some { 0 < length delays.now }
@@ -19,7 +20,7 @@ fn first_narrow(delays: &[i64]) -> Option<usize>
         return Some(1);
     }
     for place in 1..delays.len() {
-        if delays[place] < delays[place - 1] + 20 {
+        if delays[place] < delays[place - 1] + LEAST_GAP {
             return Some(place + 1);
         }
     }
@@ -36,7 +37,7 @@ pub(crate) fn test_gaps(delays: &[i64], n: u32) -> Result<(), TurnRefusal>
     if let Some(place) = first_narrow(delays) {
         return Err(TurnRefusal::Gap { place });
     }
-    if i64::from(n) < delays[delays.len() - 1] + 20 {
+    if i64::from(n) < delays[delays.len() - 1] + LEAST_GAP {
         return Err(TurnRefusal::Short { n });
     }
     Ok(())

@@ -9,6 +9,7 @@ ghost use Rattle.recipe_turn.specs.Turn.{IsInReach, IsAheadOrOwn};
 ghost use Rattle.recipe_turn.specs.Breaches.{AllKeep, IsFirstBreaking};
 ghost use Rattle.recipe_turn.specs.Range.{IsWithinReach};
 ghost use Rattle.book_parts.specs.Proper.{IsDelay};
+ghost use Rattle.book_parts.specs.declared.limits.TheConstants.{LONGEST_TURN};
 
 use crate::diagonals::{ahead_of_tail, u_of};
 use crate::own_gliders::is_own;
@@ -61,7 +62,7 @@ pub(crate) fn first_past_reach(settings: &Settings, cells: &CellSet) -> Option<C
 fn is_ahead_or_own(settings: &Settings, delays: &[i64], t: u32, cell: Cell) -> bool
     requires settings { AreProper settings.now }
     requires delays { AllByRecursion IsDelay delays.now }
-    requires time { t ≤ 65536 }
+    requires time { t ≤ LONGEST_TURN }
     requires cell { IsWithinReach cell.x cell.y }
     ensures { IsTrue result ↔ IsAheadOrOwn settings.now delays.now t cell.x cell.y }
 {
@@ -77,7 +78,7 @@ pub(crate) fn first_behind(
 ) -> Option<Cell>
     requires settings { AreProper settings.now }
     requires delays { AllByRecursion IsDelay delays.now }
-    requires time { t ≤ 65536 }
+    requires time { t ≤ LONGEST_TURN }
     requires range { IsInRange (2 ^ 41) (alive cells.now) }
     ensures { MatchOption result (AllKeep (IsAheadOrOwn settings.now delays.now t) (alive cells.now))
         (IsFirstBreaking (IsAheadOrOwn settings.now delays.now t) (alive cells.now)) }

@@ -9,6 +9,7 @@ ghost use Rattle.book_parts.specs.Limits.{AreProper, IsFrom};
 ghost use Rattle.recipe_turn.specs.Turn.{gliders};
 ghost use Rattle.recipe_turn.specs.Range.{IsWithinReach};
 ghost use Rattle.book_parts.specs.Proper.{IsDelay};
+ghost use Rattle.book_parts.specs.declared.limits.TheConstants.{LONGEST_TURN};
 
 use crate::diagonals::ahead_of_tail;
 use book_parts::Settings;
@@ -20,7 +21,7 @@ use std::alloc::Global;
 fn glider_at(settings: &Settings, delay: i64, t: u32) -> [Cell; 5]
     requires settings { AreProper settings.now }
     requires delay { IsDelay delay }
-    requires time { t ≤ 65536 }
+    requires time { t ≤ LONGEST_TURN }
     ensures { listed result ≡ stream_glider ((pos t -ℤ settings.now.approach) -ℤ delay) }
 {
     glider_cells(Track::Stream, i64::from(t) - settings.approach - delay)
@@ -37,7 +38,7 @@ fn has_cell(cells: &[Cell], cell: Cell) -> bool
 fn past_glider(settings: &Settings, delay: i64, t: u32, cell: Cell) -> i64
     requires settings { AreProper settings.now }
     requires delay { IsDelay delay }
-    requires time { t ≤ 65536 }
+    requires time { t ≤ LONGEST_TURN }
     requires cell { IsWithinReach cell.x cell.y }
     ensures { result ≡ pos 2 *ℤ (cell.x +ℤ cell.y) -ℤ ((pos t -ℤ settings.now.approach) -ℤ delay) }
 {
@@ -48,7 +49,7 @@ fn past_glider(settings: &Settings, delay: i64, t: u32, cell: Cell) -> i64
 fn glider_has(settings: &Settings, delay: i64, t: u32, cell: Cell) -> bool
     requires settings { AreProper settings.now }
     requires delay { IsDelay delay }
-    requires time { t ≤ 65536 }
+    requires time { t ≤ LONGEST_TURN }
     requires cell { IsWithinReach cell.x cell.y }
     ensures { result ≡ stream_glider ((pos t -ℤ settings.now.approach) -ℤ delay) cell.x cell.y }
 {
@@ -67,7 +68,7 @@ fn glider_has(settings: &Settings, delay: i64, t: u32, cell: Cell) -> bool
 pub(crate) fn is_own(settings: &Settings, delays: &[i64], t: u32, cell: Cell) -> bool
     requires settings { AreProper settings.now }
     requires delays { AllByRecursion IsDelay delays.now }
-    requires time { t ≤ 65536 }
+    requires time { t ≤ LONGEST_TURN }
     requires cell { IsWithinReach cell.x cell.y }
     ensures { result ≡ gliders settings.now delays.now (pos t) cell.x cell.y }
 {

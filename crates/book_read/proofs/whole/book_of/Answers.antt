@@ -6,6 +6,7 @@ use Rattle.std.proofs.lemmas.Int.{to_z-of_z}
 use Rattle.book_read.proofs.Wholly.{said_of, all_stated, some_of, some_item, reach_near, reach_far}
 use Rattle.std.proofs.Common.{◌==◌, IfSome, pos}
 use Rattle.book_parts.specs.Limits.{IsFrom}
+use Rattle.book_parts.specs.declared.limits.TheConstants.{GREATEST_WALL}
 
 pub returns-then-reach-wall-clause-err : goal.returns-then-reach-wall-clause-err
 returns-then-reach-wall-clause-err c =
@@ -17,7 +18,7 @@ returns-then-reach-wall-clause-err c =
       said_of c.args.draft settings hand.0 c.in-Some.start,
       (
         all_stated c.args.draft settings hand.0 c.in-Some.start c.in-Ok.ensures.ok hand.1 c.in-Some.is,
-        (some_item c.args.draft.kinds.items (c.if-is_empty.ensures ∙ ap (λ (n : ℕ). n == 0) c.args.draft.kinds.ok.0), (sym (to_z-of_z w64 settings.wall fits_wall), (sym (to_z-of_z w64 settings.reach fits_reach), rw (to_z-of_z w64 settings.wall fits_wall, to_z-of_z w64 settings.reach fits_reach) (reach_near settings.wall settings.reach (subst (λ (o : Option ℤ). IfSome o (λ z. IsFrom (pos 1) (pos 4096) z)) c.in-Ok.ensures.ok.wall c.requires) fits_reach test)))),
+        (some_item c.args.draft.kinds.items (c.if-is_empty.ensures ∙ ap (λ (n : ℕ). n == 0) c.args.draft.kinds.ok.0), (sym (to_z-of_z w64 settings.wall fits_wall), (sym (to_z-of_z w64 settings.reach fits_reach), rw (to_z-of_z w64 settings.wall fits_wall, to_z-of_z w64 settings.reach fits_reach) (reach_near settings.wall settings.reach (subst (λ (o : Option ℤ). IfSome o (λ z. IsFrom (pos 1) GREATEST_WALL z)) c.in-Ok.ensures.ok.wall c.requires) fits_reach test)))),
       ),
     )
 
@@ -31,4 +32,4 @@ pub returns-clause-far : goal.returns-clause-far
 returns-clause-far c =
     let settings = c.in-Ok.settings in
     let fits_reach : FitsSigned w64 settings.reach = search rules in
-    reach_far settings.wall settings.reach (subst (λ (o : Option ℤ). IfSome o (λ z. IsFrom (pos 1) (pos 4096) z)) c.in-Ok.ensures.ok.wall c.requires) fits_reach c.if-reach-wall.false
+    reach_far settings.wall settings.reach (subst (λ (o : Option ℤ). IfSome o (λ z. IsFrom (pos 1) GREATEST_WALL z)) c.in-Ok.ensures.ok.wall c.requires) fits_reach c.if-reach-wall.false

@@ -12,6 +12,7 @@ use Rattle.book_write.specs.Parts.{IsBodyWord, place_words}
 use Rattle.book_write.proofs.Laying.{words_laid}
 use Rattle.book_write.proofs.Moving.{range_placed, near_box, moved_as, moved_quadrant, moved_range}
 use Rattle.book_write.proofs.bodies.push_placed.Goals as goal
+use Rattle.book_parts.specs.Limits.{farthest}
 
 pub overflow_sub-corner : goal.overflow_sub-corner
 overflow_sub-corner c =
@@ -33,7 +34,7 @@ shift-requires c =
     let x = ap (λ (p : Cell). p.x) c.new-corner.ensures in
     let y = ap (λ (p : Cell). p.y) c.new-corner.ensures in
     let left = near.left.low in let right = near.left.high in let top = near.top.low in let bottom = near.top.high in
-    can_move (2 ^ 30) (2 ^ 30) _ _ (alive c.args.cells.now) (range_placed (alive c.args.cells.now) c.requires.placed) (lit< tt) (omega (arith, ints)) (omega (arith, ints)) (omega (arith, ints)) (omega (arith, ints))
+    can_move farthest farthest _ _ (alive c.args.cells.now) (range_placed (alive c.args.cells.now) c.requires.placed) (lit< tt) (omega (arith, ints)) (omega (arith, ints)) (omega (arith, ints)) (omega (arith, ints))
 
 pub push_body-requires-clause-range : goal.push_body-requires-clause-range
 push_body-requires-clause-range c =
