@@ -5,3 +5,10 @@ pub mod OneServed
 pub mod OneTaken
 pub mod OnePlan
 pub mod OneStop
+pub mod ServedParts
+pub mod Goes
+pub mod SalvoGoes
+pub mod PlanGoes
+pub mod Builds
+pub mod FromBook
+pub mod OfBook

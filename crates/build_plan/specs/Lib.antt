@@ -1,5 +1,6 @@
 -- The stated planner: which plan a book gives for a target, or why it gives none.
 pub mod Numbers
+pub mod NumberLaws
 pub mod TurnEvents
 pub mod Throws
 pub mod Served
@@ -9,3 +10,4 @@ pub mod Stand
 pub mod Usable
 pub mod Plan
 pub mod Stops
+pub mod Happenings

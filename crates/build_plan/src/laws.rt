@@ -1,8 +1,13 @@
 //! Laws of plans and of stops: a book has at most one plan for a target, or one stop, and not both.
 
-ghost use Rattle.std.specs.Prelude.{◌≡◌, ◌≢◌};
-ghost use Rattle.life_plane.specs.Plane.{Plane};
-ghost use Rattle.recipe_book.specs.Checked.{CheckedEntries};
+ghost use Rattle.std.specs.Prelude.{◌≡◌, ◌≢◌, neg_ℤ, List};
+ghost use Rattle.std.specs.List.{AllByRecursion};
+ghost use Rattle.life_plane.specs.Plane.{Plane, shift};
+ghost use Rattle.life_cells.specs.Cells.{alive};
+ghost use Rattle.recipe_book.specs.Checked.{CheckedEntries, IsCheckedBook};
+ghost use Rattle.plan_facts.specs.Happenings.{Happening};
+ghost use Rattle.plan_facts.specs.Facts.{IsConstruction};
+ghost use Rattle.build_plan.specs.Happenings.{AllStandFor, IsOfBook};
 ghost use Rattle.build_plan.specs.declared.plan.Plan.{Plan as Planned};
 ghost use Rattle.build_plan.specs.declared.error.PlanError.{PlanError as Stop};
 ghost use Rattle.build_plan.specs.Plan.{IsPlan, SamePlan};
@@ -41,3 +46,14 @@ pub fn stops_are_one()
     hand_lists_are_one();
     farewells_are_one();
 }
+
+/// What a plan's events stand for, at whatever times, is a construction of the target, away from its own place by the plan's shift back.
+pub fn plans_construct()
+    ensures { (book : CheckedEntries) → IsCheckedBook book → (target : Plane) (plan : Planned) → IsPlan book target plan → (happenings : List Happening) → AllStandFor book plan.events.items happenings →
+        IsConstruction book.settings book.kinds book.start (alive book.hand) plan.first_hand happenings (shift (neg_ℤ plan.back.x) (neg_ℤ plan.back.y) target) }
+{}
+
+/// Each event of a plan is one of the book's: numbers of turns and salvos are those of the accepted ones, and places those of a salvo's hits.
+pub fn plans_are_of_their_book()
+    ensures { (book : CheckedEntries) (target : Plane) (plan : Planned) → IsPlan book target plan → AllByRecursion (IsOfBook book) plan.events.items }
+{}
