@@ -26,6 +26,7 @@ use Rattle.recipe_book.specs.Verdicts.{TurnFails, SalvoFails, IsTurnVerdict, IsS
 use Rattle.recipe_book.specs.Accepting.{IsKeptTurn, IsKeptSalvo}
 use Rattle.recipe_book.specs.declared.verdict.Verdict.{Verdict}
 use Rattle.recipe_book.proofs.JudgedSoFar.{IsSoFar}
+use Rattle.recipe_hit.specs.declared.limits.TheConstants.{MOST_COUNTED}
 
 -- the turns so far
 abbrev pub TurnsSoFar : Settings → List RawKind → List RawTurn → List RawTurn → List Checked → List Verdict → List Verdict → ℕ → ℕ → Type 0
@@ -36,7 +37,7 @@ TurnsSoFar settings kinds all rest found old now before after =
 -- the salvos so far
 abbrev pub SalvosSoFar : Cells → List RawSalvo → List RawSalvo → List Struck → List Verdict → List Verdict → ℕ → ℕ → Type 0
 SalvosSoFar hand all rest found old now before after =
-    IsSoFar (λ (c : Struck). c.raw) (IsSoundSalvo (alive hand)) (IsKeptSalvo hand) (IsSalvoVerdict (alive hand)) IsProperSalvo (λ (salvo : RawSalvo). 4097 * length salvo.lanes)
+    IsSoFar (λ (c : Struck). c.raw) (IsSoundSalvo (alive hand)) (IsKeptSalvo hand) (IsSalvoVerdict (alive hand)) IsProperSalvo (λ (salvo : RawSalvo). MOST_COUNTED * length salvo.lanes)
     all rest found old now before after
 
 -- what is kept of a turn is sound

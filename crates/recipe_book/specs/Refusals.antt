@@ -15,6 +15,7 @@ use Rattle.recipe_book.specs.Entries.{AreTheSound}
 use Rattle.recipe_book.specs.Checked.{most_states}
 use Rattle.recipe_book.specs.declared.refusal.BookRefusal.{BookRefusal}
 use Rattle.recipe_book.specs.declared.refusal.BookRefusal.TheVariants.{KindPlace, KindNotStill, HandNotStill, ElbowMany, Memory}
+use Rattle.recipe_hit.specs.declared.limits.TheConstants.{MOST_COUNTED}
 
 -- the sound ones of these turns lead the elbow from its start to more states than a book may have
 pub record HasManyStates (settings : Settings) (kinds : List RawKind) (start : ℕ) (turns : List RawTurn) : Type 0 where
@@ -56,4 +57,4 @@ generations turns = sum_by (λ (turn : RawTurn). turn.n) turns
 
 -- the most generations that the hits of all salvos take: 4,097 for each lane
 abbrev pub most_hit_generations : List RawSalvo → ℕ
-most_hit_generations salvos = sum_by (λ (salvo : RawSalvo). 4097 * length salvo.lanes) salvos
+most_hit_generations salvos = sum_by (λ (salvo : RawSalvo). MOST_COUNTED * length salvo.lanes) salvos

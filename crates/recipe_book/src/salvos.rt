@@ -9,6 +9,7 @@ ghost use Rattle.recipe_book.specs.Entries.{AreTheSoundSalvos};
 ghost use Rattle.recipe_book.specs.Verdicts.{IsSalvoVerdict};
 ghost use Rattle.recipe_book.specs.Accepting.{IsJudgedSalvo, IsKeptSalvo, AddsVerdicts};
 ghost use Rattle.recipe_book.specs.Refusals.{most_hit_generations};
+ghost use Rattle.recipe_hit.specs.declared.limits.TheConstants.{MOST_COUNTED};
 
 use crate::verdict::Verdict;
 use book_parts::RawSalvo;
@@ -29,7 +30,7 @@ fn judge_salvo<L: Ledger>(
     requires { IsProperSalvo salvo }
     ensures judged { IfOk result (λ judged. IsJudgedSalvo hand.now salvo judged) }
     ensures least { steps.old ≤ steps.new }
-    ensures most { steps.new ≤ steps.old + 4097 * length salvo.lanes }
+    ensures most { steps.new ≤ steps.old + MOST_COUNTED * length salvo.lanes }
 {
     match check_salvo(alloc, hand, salvo, steps) {
         Ok(checked) => Ok(Ok(checked)),

@@ -3,6 +3,7 @@ use Rattle.std.proofs.Common.{◌≡◌, Bool, true, false, ℤ, pos, neg_ℤ, �
 use lib.Signed.{le_z}
 use Rattle.std.proofs.lemmas.Int.{ints}
 use Rattle.life_plane.specs.NumberLaws.{le_from_test, test_from_le}
+use Rattle.recipe_hit.specs.declared.limits.TheConstants.{BEYOND}
 
 -- what holds where a test succeeds
 pub holds_if_true : (b : Bool) (P Q : Type 0) → b ≡ true → MatchBool b P Q → P
@@ -22,7 +23,7 @@ test_decides a b x y P ea eb from to = (
 )
 
 -- a side of a box of cells, moved out by 8,192, keeps 64 bits
-pub beyond_kept : (z : ℤ) → neg_ℤ (pos (2 ^ 40)) ≤ℤ z → z ≤ℤ pos (2 ^ 40) → to_z w64 (of_z w64 (to_z w64 (of_z w64 z) +ℤ pos 8192)) ≡ z +ℤ pos 8192
+pub beyond_kept : (z : ℤ) → neg_ℤ (pos (2 ^ 40)) ≤ℤ z → z ≤ℤ pos (2 ^ 40) → to_z w64 (of_z w64 (to_z w64 (of_z w64 z) +ℤ BEYOND)) ≡ z +ℤ BEYOND
 beyond_kept z low high = omega (arith, ints)
 
 -- what a failed test decides against

@@ -13,6 +13,7 @@ use Rattle.recipe_hit.specs.Strike.{first_quarter, hit_start, ever, ComesToRest,
 use Rattle.recipe_hit.specs.Rest.{IsRestOf, NeverRests}
 use Rattle.recipe_hit.specs.Refusals.{HasNoHit, HitIsRefused}
 use Rattle.recipe_hit.specs.declared.refusal.HitRefusal.TheVariants.{NotSettled}
+use Rattle.recipe_hit.specs.declared.limits.TheConstants.{LONGEST_HIT}
 
 -- the first still generation is one
 pub one_rest : (s : Plane) (n m : ℕ) → ComesToRest s n → ComesToRest s m → n ≡ m
@@ -53,7 +54,7 @@ made_hit struck start box lane rest hit h is r near on begins after when bounds 
   lane_is = on;
   start_is = begins;
   rests = subst (λ n. ComesToRest (hit_start struck box lane) n) (sym when) (subst (λ p. ComesToRest p rest.generations) is r.rests);
-  soon = subst (λ n. n ≤ 4096) (sym when) r.soon;
+  soon = subst (λ n. n ≤ LONGEST_HIT) (sym when) r.soon;
   leaves = ap alive after ∙ r.leaves ∙ ap (run rest.generations) is ∙ ap (λ n. run n (hit_start struck box lane)) (sym when);
   bounds = subst (λ b. IsLeastBox b (ever hit.generations (hit_start struck box lane))) (sym bounds)
       (subst (λ n. IsLeastBox rest.bounds (ever n (hit_start struck box lane))) (sym when) (subst (λ p. IsLeastBox rest.bounds (ever rest.generations p)) is r.bounds));
@@ -61,5 +62,5 @@ made_hit struck start box lane rest hit h is r near on begins after when bounds 
 }
 
 -- where nothing rests, and where it rests too far off, the hit is refused
-pub refused : (struck : Plane) (box : Bounds) (lane : ℤ) → IsLeastBox box struck → HasNoHit struck lane → HitIsRefused struck lane (NotSettled 4096)
+pub refused : (struck : Plane) (box : Bounds) (lane : ℤ) → IsLeastBox box struck → HasNoHit struck lane → HitIsRefused struck lane (NotSettled LONGEST_HIT)
 refused struck box lane h none = (refl, (h.lives, none))

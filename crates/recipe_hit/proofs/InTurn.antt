@@ -9,14 +9,15 @@ use Rattle.life_plane.specs.SalvoLaws.{salvo_front, salvo_range, salvo_corner}
 use Rattle.life_cells.specs.Cells.{alive}
 use Rattle.life_cells.specs.Boxes.{IsInRange, IsBoxInRange}
 use Rattle.life_cells.specs.BoxLaws.{range_wider}
-use Rattle.book_parts.specs.Limits.{IsCoordinate}
+use Rattle.book_parts.specs.Limits.{IsCoordinate, farthest}
 use Rattle.book_parts.specs.Proper.{IsProperHand}
 use Rattle.recipe_hit.specs.declared.hit.Hit.{Hit}
-use Rattle.recipe_hit.specs.Strike.{first_quarter, hit_start, IsHit}
+use Rattle.recipe_hit.specs.Strike.{first_quarter, hit_start, IsHit, beyond}
 use Rattle.recipe_hit.specs.Sound.{AreHits, what_is_left}
 use Rattle.recipe_hit.specs.Checked.{IsSmall, IsSmallFrame, AreSmallFrames}
 use Rattle.recipe_hit.proofs.Joining.{box_in_range, range_of_box}
 use Rattle.recipe_hit.specs.SceneHitLaws.{in_ever}
+use Rattle.book_parts.specs.declared.limits.TheConstants.{MOST_LANES}
 
 -- ---- what is left
 
@@ -53,7 +54,7 @@ small_more (one ∷ hits) hit h is = (h.0, small_more hits hit h.1 is)
 -- ---- how far a hit goes
 
 -- its bounds lie at most 8,192 further out than what is struck
-bounds_range : (n : ℕ) (struck : Plane) (lane : ℤ) (hit : Hit) → IsInRange n struck → IsHit struck lane hit → IsBoxInRange (n + 8192) hit.frame.bounds
+bounds_range : (n : ℕ) (struck : Plane) (lane : ℤ) (hit : Hit) → IsInRange n struck → IsHit struck lane hit → IsBoxInRange (n + beyond) hit.frame.bounds
 bounds_range n struck lane hit range h =
     let box = box_in_range n h.box struck h.box_is range in
     let left = h.near.left in let top = h.near.top in let right = h.near.right in let bottom = h.near.bottom in
@@ -73,9 +74,9 @@ bounds_range n struck lane hit range h =
     }
 
 -- and so does what it leaves
-pub after_range : (n : ℕ) (struck : Plane) (lane : ℤ) (hit : Hit) → IsInRange n struck → IsHit struck lane hit → IsInRange (n + 8192) (alive hit.after)
+pub after_range : (n : ℕ) (struck : Plane) (lane : ℤ) (hit : Hit) → IsInRange n struck → IsHit struck lane hit → IsInRange (n + beyond) (alive hit.after)
 after_range n struck lane hit range h =
-    range_of_box (n + 8192) hit.frame.bounds (alive hit.after) (record {
+    range_of_box (n + beyond) hit.frame.bounds (alive hit.after) (record {
       each = λ x y l. h.bounds.holds.each x y (in_ever hit.generations hit.generations (hit_start struck h.box lane) x y (omega arith) (ap (λ (p : Plane). p x y) (sym h.leaves) ∙ l));
     }) (bounds_range n struck lane hit range h)
 
@@ -88,7 +89,7 @@ start_near lane quarter x y l =
     (omega (arith, ints), omega (arith, ints))
 
 -- the numbers of a hit at a hand are small
-pub small_frame : (n : ℕ) (struck : Plane) (lane : ℤ) (hit : Hit) → n + 8192 ≤ 2 ^ 30 + 2 ^ 19 → IsCoordinate lane → IsInRange n struck → IsHit struck lane hit → IsSmallFrame hit.frame
+pub small_frame : (n : ℕ) (struck : Plane) (lane : ℤ) (hit : Hit) → n + beyond ≤ farthest + 2 ^ 19 → IsCoordinate lane → IsInRange n struck → IsHit struck lane hit → IsSmallFrame hit.frame
 small_frame n struck lane hit few on range h =
     let b = bounds_range n struck lane hit range h in
     let front = salvo_front lane (pos 4 *ℤ first_quarter h.box lane) in
@@ -109,7 +110,7 @@ small_frame n struck lane hit few on range h =
     }
 
 -- the hand's range
-pub hand_range : (s : Plane) → IsProperHand s → IsInRange (2 ^ 30) s
+pub hand_range : (s : Plane) → IsProperHand s → IsInRange farthest s
 hand_range s h = record {
   x_low = λ x y l. let k = h.x x y l in omega (arith, ints, k.low);
   x_high = λ x y l. (h.x x y l).high;
@@ -118,14 +119,14 @@ hand_range s h = record {
 }
 
 -- one hit more at a hand: its frame is small, and what it leaves lies not much further out
-pub small_after : (struck : Plane) (hits all : List Hit) (place : ℕ) (lane : ℤ) (hit : Hit) → place < 64 → IsCoordinate lane → IsInRange (2 ^ 30 + 8192 * place) struck → IsHit struck lane hit →
+pub small_after : (struck : Plane) (hits all : List Hit) (place : ℕ) (lane : ℤ) (hit : Hit) → place < MOST_LANES → IsCoordinate lane → IsInRange (farthest + beyond * place) struck → IsHit struck lane hit →
     all ≡ hits ++ hit ∷ [] → AreSmallFrames hits → AreSmallFrames all
 small_after struck hits all place lane hit few on range is grown before =
-    subst AreSmallFrames (sym grown) (small_more hits hit before (small_frame (2 ^ 30 + 8192 * place) struck lane hit (omega arith) on range is))
+    subst AreSmallFrames (sym grown) (small_more hits hit before (small_frame (farthest + beyond * place) struck lane hit (omega arith) on range is))
 
-pub range_after : (start struck : Plane) (hits all : List Hit) (place : ℕ) (lane : ℤ) (hit : Hit) → IsInRange (2 ^ 30 + 8192 * place) struck → IsHit struck lane hit → all ≡ hits ++ hit ∷ [] →
-    IsInRange (2 ^ 30 + 8192 * (place + 1)) (what_is_left start all)
+pub range_after : (start struck : Plane) (hits all : List Hit) (place : ℕ) (lane : ℤ) (hit : Hit) → IsInRange (farthest + beyond * place) struck → IsHit struck lane hit → all ≡ hits ++ hit ∷ [] →
+    IsInRange (farthest + beyond * (place + 1)) (what_is_left start all)
 range_after start struck hits all place lane hit range is grown =
     let left : what_is_left start all ≡ alive hit.after = ap (what_is_left start) grown ∙ left_more start hits hit in
-    subst (IsInRange (2 ^ 30 + 8192 * (place + 1))) (sym left)
-    (range_wider ((2 ^ 30 + 8192 * place) + 8192) (2 ^ 30 + 8192 * (place + 1)) (alive hit.after) (after_range (2 ^ 30 + 8192 * place) struck lane hit range is) (omega arith))
+    subst (IsInRange (farthest + beyond * (place + 1))) (sym left)
+    (range_wider ((farthest + beyond * place) + beyond) (farthest + beyond * (place + 1)) (alive hit.after) (after_range (farthest + beyond * place) struck lane hit range is) (omega arith))

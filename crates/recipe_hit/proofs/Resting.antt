@@ -8,13 +8,14 @@ use Rattle.life_cells.specs.Boxes.{IsInRange, IsLeastBox}
 use Rattle.life_cells.specs.BoxLaws.{range_run, range_wider}
 use Rattle.life_cells.specs.Laws.{same_cells}
 use Rattle.recipe_hit.specs.Strike.{ever}
+use Rattle.recipe_hit.specs.declared.limits.TheConstants.{LONGEST_HIT}
 
 -- none of the generations before this one is still
 abbrev pub MovesBefore : Plane → ℕ → Type 0
 MovesBefore start n = (t : ℕ) → t < n → IsStill (run t start) → ⊥
 
 -- how far the cells of a generation lie
-pub course_range : (start s : Plane) (t : ℕ) → IsInRange (2 ^ 44) start → t ≤ 4096 → s ≡ run t start → IsInRange (2 ^ 61) s
+pub course_range : (start s : Plane) (t : ℕ) → IsInRange (2 ^ 44) start → t ≤ LONGEST_HIT → s ≡ run t start → IsInRange (2 ^ 61) s
 course_range start s t h le same = subst (IsInRange (2 ^ 61)) (sym same) (range_wider (2 ^ 44 + t) (2 ^ 61) _ (range_run t (2 ^ 44) start h) (omega arith))
 
 -- one generation on

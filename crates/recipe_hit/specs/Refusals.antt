@@ -9,6 +9,7 @@ use Rattle.recipe_hit.specs.declared.refusal.HitRefusal.TheVariants as hit
 use Rattle.recipe_hit.specs.declared.refusal.HandRefusal.{HandRefusal}
 use Rattle.recipe_hit.specs.declared.refusal.HandRefusal.TheVariants as hand
 use Rattle.recipe_hit.specs.Strike.{IsHit}
+use Rattle.recipe_hit.specs.declared.limits.TheConstants.{LONGEST_HIT}
 
 -- a glider of this lane has no hit
 abbrev pub HasNoHit : Plane → ℤ → Type 0
@@ -17,7 +18,7 @@ HasNoHit struck lane = (h : Hit) → IsHit struck lane h → ⊥
 -- there is no hit for this cause
 abbrev pub HitIsRefused : Plane → ℤ → HitRefusal → Type 0
 HitIsRefused struck lane hit.Empty = struck ≡ nothing
-HitIsRefused struck lane (hit.NotSettled after) = (after ≡ 4096) × (HasLife struck × HasNoHit struck lane)
+HitIsRefused struck lane (hit.NotSettled after) = (after ≡ LONGEST_HIT) × (HasLife struck × HasNoHit struck lane)
 HitIsRefused struck lane hit.Memory = Unit {0}
 
 -- a set is no hand for this cause

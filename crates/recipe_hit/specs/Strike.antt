@@ -1,5 +1,5 @@
 -- A hit: a glider strikes what lives, and all comes to rest.
-use Rattle.std.specs.Prelude.{◌≡◌, ℕ, zero, suc, ◌<◌, ◌≤◌, ℤ, pos, neg_ℤ, ◌+ℤ◌, ◌-ℤ◌, ◌*ℤ◌, ◌≤ℤ◌}
+use Rattle.std.specs.Prelude.{◌≡◌, ℕ, zero, suc, ◌<◌, ◌≤◌, ℤ, pos, neg_ℤ, nat_abs, ◌+ℤ◌, ◌-ℤ◌, ◌*ℤ◌, ◌≤ℤ◌}
 use Rattle.std.specs.Int.{int_max}
 use Rattle.life_plane.specs.Plane.{Plane, IsStill, run, union}
 use Rattle.life_plane.specs.Salvo.{salvo_glider}
@@ -7,6 +7,7 @@ use Rattle.life_cells.specs.Cells.{alive}
 use Rattle.life_cells.specs.Boxes.{IsLeastBox}
 use Rattle.life_cells.specs.declared.bounds.Bounds.{Bounds}
 use Rattle.recipe_hit.specs.declared.hit.Hit.{Hit}
+use Rattle.recipe_hit.specs.declared.limits.TheConstants.{LONGEST_HIT, BEYOND}
 
 -- The quarter of a glider's index from which it comes to what lies in the box: six cells away to the left of it, or below it, whichever
 -- is nearer.
@@ -27,12 +28,16 @@ pub record ComesToRest (s : Plane) (n : ℕ) : Type 0 where
   pub still : IsStill (run n s)
   pub first : (t : ℕ) → t < n → IsStill (run t s) → ⊥
 
--- a box goes at most 8,192 beyond another on each side
+-- how far the bounds of a hit may go beyond those of what was struck
+abbrev pub beyond : ℕ
+beyond = nat_abs BEYOND
+
+-- a box goes at most so far beyond another on each side
 pub record IsNear (box other : Bounds) : Type 0 where
-  pub left : (other.left -ℤ pos 8192) ≤ℤ box.left
-  pub top : (other.top -ℤ pos 8192) ≤ℤ box.top
-  pub right : box.right ≤ℤ (other.right +ℤ pos 8192)
-  pub bottom : box.bottom ≤ℤ (other.bottom +ℤ pos 8192)
+  pub left : (other.left -ℤ BEYOND) ≤ℤ box.left
+  pub top : (other.top -ℤ BEYOND) ≤ℤ box.top
+  pub right : box.right ≤ℤ (other.right +ℤ BEYOND)
+  pub bottom : box.bottom ≤ℤ (other.bottom +ℤ BEYOND)
 
 -- A hit of a glider of this lane: it comes to rest within 4,096 generations, leaves what lives then, and keeps its bounds on the way, which
 -- are near those of what was struck.
@@ -42,7 +47,7 @@ pub record IsHit (struck : Plane) (lane : ℤ) (hit : Hit) : Type 0 where
   pub lane_is : hit.frame.lane ≡ lane
   pub start_is : hit.frame.start ≡ first_quarter box lane
   pub rests : ComesToRest (hit_start struck box lane) hit.generations
-  pub soon : hit.generations ≤ 4096
+  pub soon : hit.generations ≤ LONGEST_HIT
   pub leaves : alive hit.after ≡ run hit.generations (hit_start struck box lane)
   pub bounds : IsLeastBox hit.frame.bounds (ever hit.generations (hit_start struck box lane))
   pub near : IsNear hit.frame.bounds box

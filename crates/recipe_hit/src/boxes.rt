@@ -5,10 +5,8 @@ ghost use Rattle.life_cells.specs.Boxes.{IsLeastBox, IsBoxOf, IsBoxInRange};
 ghost use Rattle.life_plane.specs.Plane.{Plane, union};
 ghost use Rattle.recipe_hit.specs.Strike.{IsNear};
 
+use crate::limits::BEYOND;
 use life_cells::Bounds;
-
-/// How far the bounds of a hit may go beyond those of what was struck, on each side.
-const BEYOND: i64 = 8192;
 
 /// The least box that holds what a box holds, and more cells, whose own box is given where there are any.
 pub(crate) fn grown(bounds: Bounds, more: Option<Bounds>) -> Bounds

@@ -6,6 +6,7 @@ ghost use Rattle.life_islands.specs.Shapes.{IsShapeOf};
 ghost use Rattle.book_parts.specs.Proper.{IsProperSalvo};
 ghost use Rattle.recipe_hit.specs.Checked.{IsChecked};
 ghost use Rattle.recipe_hit.specs.SalvoRefusals.{SalvoIsRefused};
+ghost use Rattle.recipe_hit.specs.declared.limits.TheConstants.{MOST_COUNTED};
 
 use crate::hand::Hand;
 use crate::hit::Hit;
@@ -98,7 +99,7 @@ pub fn check_salvo<L: Ledger>(
     ensures back { IfErr result (λ e. e.0 ≡ salvo) }
     ensures refusal { IfErr result (λ e. SalvoIsRefused (alive hand.now) salvo e.1) }
     ensures least { steps.old ≤ steps.new }
-    ensures most { steps.new ≤ steps.old + 4097 * length salvo.lanes }
+    ensures most { steps.new ≤ steps.old + MOST_COUNTED * length salvo.lanes }
 {
     match test_salvo(alloc, hand.cells(), &salvo, steps) {
         Ok(tested) => Ok(CheckedSalvo {

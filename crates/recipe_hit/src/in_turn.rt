@@ -11,6 +11,7 @@ ghost use Rattle.recipe_hit.specs.Strike.{IsHit};
 ghost use Rattle.recipe_hit.specs.Sound.{AreHits, what_is_left};
 ghost use Rattle.recipe_hit.specs.Checked.{AreSmallFrames};
 ghost use Rattle.recipe_hit.specs.SalvoRefusals.{LaneIsRefused, LanesAreRefused};
+ghost use Rattle.recipe_hit.specs.declared.limits.TheConstants.{MOST_COUNTED};
 
 use crate::hit::Hit;
 use crate::refusal::{HitRefusal, SalvoRefusal};
@@ -44,7 +45,7 @@ pub(crate) fn strike_in_turn<L: Ledger>(
     ensures small { IfOk result (λ hits. AreSmallFrames hits.items) }
     ensures refusal { IfErr result (λ e. LanesAreRefused (alive hand.now) lanes.now e) }
     ensures least { steps.old ≤ steps.new }
-    ensures most { steps.new ≤ steps.old + 4097 * length lanes.now }
+    ensures most { steps.new ≤ steps.old + MOST_COUNTED * length lanes.now }
 {
     let mut hits = Vec::new(alloc);
     for (place, lane) in lanes.iter().enumerate() {
@@ -68,7 +69,7 @@ fn strike<L: Ledger>(
     ensures hit { IfOk result (λ hit. IsHit (alive struck.now) lane hit) }
     ensures refusal { IfErr result (λ e. LaneIsRefused (alive struck.now) lane place e) }
     ensures least { steps.old ≤ steps.new }
-    ensures most { steps.new ≤ steps.old + 4097 }
+    ensures most { steps.new ≤ steps.old + MOST_COUNTED }
 {
     match hit(alloc, struck, lane, steps) {
         Ok(hit) => Ok(hit),

@@ -10,6 +10,7 @@ pub mod hand;
 pub mod hit;
 mod in_turn;
 pub mod laws;
+pub mod limits;
 pub mod refusal;
 mod rest;
 mod soundness;

@@ -4,16 +4,15 @@ ghost use Rattle.std.specs.Prelude.{◌+◌, ◌≤◌, ◌^◌, IfOk, IfSome, I
 ghost use Rattle.life_cells.specs.Cells.{alive};
 ghost use Rattle.life_cells.specs.Boxes.{IsInRange, IsLeastBox};
 ghost use Rattle.recipe_hit.specs.Rest.{IsRestOf, NeverRests};
+ghost use Rattle.recipe_hit.specs.declared.limits.TheConstants.{MOST_COUNTED};
 
 use crate::boxes::grown;
+use crate::limits::LONGEST_HIT;
 use life_cells::{Bounds, CellSet, NoMemory};
 use life_steps::Steps;
 use life_tiles::Tiles;
 use std::alloc::Global;
 use std::sync::ledger::Ledger;
-
-/// The most generations in which a pattern may come to rest.
-pub(crate) const LIMIT: u32 = 4096;
 
 /// A pattern that has come to rest.
 #[derive(Drop)]
@@ -39,11 +38,11 @@ pub(crate) fn come_to_rest<L: Ledger>(
     ensures some { IfOk result (λ found. IfSome found (IsRestOf (alive start.now))) }
     ensures none { IfOk result (λ found. IfNone found (NeverRests (alive start.now))) }
     ensures least { steps.old ≤ steps.new }
-    ensures most { steps.new ≤ steps.old + 4097 }
+    ensures most { steps.new ≤ steps.old + MOST_COUNTED }
 {
     let mut tiles = Tiles::from_cells(alloc, start)?;
     let mut bounds = bounds;
-    for generation in 0..=LIMIT {
+    for generation in 0..=LONGEST_HIT {
         if !tiles.step(steps)? {
             let after = tiles.to_cells()?;
             return Ok(Some(Rest {

@@ -6,6 +6,7 @@ ghost use Rattle.book_parts.specs.Proper.{IsProperHand, IsProperSalvo};
 ghost use Rattle.recipe_hit.specs.Sound.{IsSound};
 ghost use Rattle.recipe_hit.specs.Checked.{AreSmallFrames, IsShown};
 ghost use Rattle.recipe_hit.specs.SalvoRefusals.{SalvoIsRefused};
+ghost use Rattle.recipe_hit.specs.declared.limits.TheConstants.{MOST_COUNTED};
 
 use crate::ending::{hand_at, shown, test_end};
 use crate::hit::Hit;
@@ -41,7 +42,7 @@ pub(crate) fn test_salvo<L: Ledger>(
     ensures shown { IfOk result (λ tested. IsShown salvo.now.product tested.product) }
     ensures refusal { IfErr result (λ e. SalvoIsRefused (alive hand.now) salvo.now e) }
     ensures least { steps.old ≤ steps.new }
-    ensures most { steps.new ≤ steps.old + 4097 * length salvo.now.lanes }
+    ensures most { steps.new ≤ steps.old + MOST_COUNTED * length salvo.now.lanes }
 {
     let hits = strike_in_turn(alloc, hand, salvo.lanes.items(), steps)?;
     let left = hand_at(alloc, hand, salvo.hand)?;

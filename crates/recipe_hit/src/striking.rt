@@ -7,12 +7,14 @@ ghost use Rattle.life_plane.specs.Plane.{union};
 ghost use Rattle.life_plane.specs.Salvo.{salvo_glider};
 ghost use Rattle.recipe_hit.specs.Strike.{IsHit, first_quarter};
 ghost use Rattle.recipe_hit.specs.Refusals.{HitIsRefused};
+ghost use Rattle.recipe_hit.specs.declared.limits.TheConstants.{MOST_COUNTED};
 
 use crate::boxes::{grown, is_near};
 use crate::frame::HitFrame;
 use crate::hit::Hit;
+use crate::limits::LONGEST_HIT;
 use crate::refusal::HitRefusal;
-use crate::rest::{LIMIT, come_to_rest};
+use crate::rest::come_to_rest;
 use life_cells::{Bounds, CellSet, NoMemory};
 use life_gliders::{Track, glider_cells};
 use life_steps::Steps;
@@ -35,7 +37,7 @@ pub fn hit<L: Ledger>(
     ensures hit { IfOk result (λ hit. IsHit (alive cells.now) lane hit) }
     ensures refusal { IfErr result (λ e. HitIsRefused (alive cells.now) lane e) }
     ensures least { steps.old ≤ steps.new }
-    ensures most { steps.new ≤ steps.old + 4097 }
+    ensures most { steps.new ≤ steps.old + MOST_COUNTED }
 {
     let Some(struck) = cells.bounds() else {
         return Err(HitRefusal::Empty);
@@ -44,10 +46,10 @@ pub fn hit<L: Ledger>(
     let before = with_glider(alloc, cells, lane, start)?;
     let bounds = grown(struck, before.bounds());
     let Some(rest) = come_to_rest(alloc, &before, bounds, steps)? else {
-        return Err(HitRefusal::NotSettled { after: LIMIT });
+        return Err(HitRefusal::NotSettled { after: LONGEST_HIT });
     };
     if !is_near(rest.bounds, struck) {
-        return Err(HitRefusal::NotSettled { after: LIMIT });
+        return Err(HitRefusal::NotSettled { after: LONGEST_HIT });
     }
     Ok(Hit {
         after: rest.after,

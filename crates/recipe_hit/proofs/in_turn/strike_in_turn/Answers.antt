@@ -5,19 +5,20 @@ use Rattle.life_plane.specs.ListLaws.{each_at}
 use Rattle.life_cells.specs.Cells.{alive}
 use Rattle.life_cells.specs.Boxes.{IsInRange}
 use Rattle.life_cells.specs.BoxLaws.{range_wider}
-use Rattle.book_parts.specs.Limits.{IsCoordinate}
+use Rattle.book_parts.specs.Limits.{IsCoordinate, farthest}
 use Rattle.recipe_hit.specs.declared.hit.Hit.{Hit}
 use Rattle.recipe_hit.specs.Sound.{AreHits, what_is_left}
 use Rattle.recipe_hit.specs.Checked.{AreSmallFrames}
 use Rattle.recipe_hit.proofs.InTurn.{left_is, small_after, range_after, hand_range}
 use Rattle.recipe_hit.proofs.Missing.{lane_read, missed_here, turns_more}
 use Rattle.recipe_hit.proofs.in_turn.strike_in_turn.Goals as goal
+use Rattle.recipe_hit.specs.Strike.{beyond}
 
 pub loop-place-init : goal.loop-place-init
 loop-place-init g c = record {
   hits = subst (AreHits (alive c.args.hand.now) []) (sym c.new-hits.ensures.items) tt;
   small = subst AreSmallFrames (sym c.new-hits.ensures.items) tt;
-  range = subst (λ (hits : List Hit). IsInRange (2 ^ 30) (what_is_left (alive c.args.hand.now) hits)) (sym c.new-hits.ensures.items) (hand_range (alive c.args.hand.now) c.requires.hand);
+  range = subst (λ (hits : List Hit). IsInRange farthest (what_is_left (alive c.args.hand.now) hits)) (sym c.new-hits.ensures.items) (hand_range (alive c.args.hand.now) c.requires.hand);
   least = omega arith;
   most = omega arith;
 }
@@ -25,7 +26,7 @@ loop-place-init g c = record {
 pub strike-requires-clause-range : goal.strike-requires-clause-range
 strike-requires-clause-range g c =
     subst (IsInRange (2 ^ 40)) (sym (left_is (alive c.args.hand.now) (alive c.left_by.result.now) c.loop-place.hits.items _ c.left_by.ensures c.deref.ensures.value))
-    (range_wider (2 ^ 30 + 8192 * c.loop-place.place) (2 ^ 40) _ c.loop-place.invariant.range (omega arith))
+    (range_wider (farthest + beyond * c.loop-place.place) (2 ^ 40) _ c.loop-place.invariant.range (omega arith))
 
 pub strike-requires-clause-low : goal.strike-requires-clause-low
 strike-requires-clause-low g c =
@@ -56,7 +57,7 @@ loop-place-preserved g c =
     let on = each_at IsCoordinate c.args.lanes.now c.requires.lanes place (pos 0) c.loop-place-test.true in
     let read = lane_read (get_or c.args.lanes.now place (pos 0)) on in
     let left = left_is start struck hits _ c.left_by.ensures c.deref.ensures.value in
-    let range = subst (IsInRange (2 ^ 30 + 8192 * place)) (sym left) c.loop-place.invariant.range in
+    let range = subst (IsInRange (farthest + beyond * place)) (sym left) c.loop-place.invariant.range in
     let is = c.in_ok-next.ensures.hit in
     let grown = c.in_ok-push.ensures.items in
     record {
