@@ -4,5 +4,7 @@ pub mod MovedFrameLaws
 pub mod Clear
 pub mod Refusals
 pub mod RefusalLaws
+pub mod Bare
+pub mod Barriers
 pub mod StaysApart
 pub mod ClearLaws

@@ -1,6 +1,6 @@
 //! Clearance of a hit.
 
-ghost use Rattle.std.specs.Prelude.{◌≡◌, ◌^◌, ◌-ℤ◌, IfOk, IfErr};
+ghost use Rattle.std.specs.Prelude.{◌≡◌, ◌↔◌, ◌^◌, ◌-ℤ◌, IsTrue, IfOk, IfErr};
 ghost use Rattle.life_cells.specs.Cells.{alive};
 ghost use Rattle.life_cells.specs.Boxes.{IsInRange, IsCellInRange, IsBoxInRange};
 ghost use Rattle.book_parts.specs.Limits.{AreProper};
@@ -27,15 +27,24 @@ fn least_u(bounds: Bounds) -> i64
     bounds.left - bounds.bottom
 }
 
-// Whether the bounds are beyond the reach.
+/// Whether the bounds are beyond the reach.
+pub(crate) fn are_beyond(settings: &Settings, bounds: Bounds) -> bool
+    requires settings { AreProper settings.now }
+    requires bounds { IsBoxInRange (2 ^ 54) bounds }
+    ensures { IsTrue result ↔ AreBeyond settings.now bounds }
+{
+    least_u(bounds) >= settings.reach + BEYOND
+}
+
+// Tests whether the bounds are beyond the reach.
 fn test_reach(settings: &Settings, bounds: Bounds) -> Result<(), ClearRefusal>
     requires settings { AreProper settings.now }
     requires bounds { IsBoxInRange (2 ^ 54) bounds }
     ensures ok { IfOk result (λ _. AreBeyond settings.now bounds) }
     ensures err { IfErr result (λ e. (e ≡ Works (bounds.left -ℤ bounds.bottom)) × (AreBeyond settings.now bounds → ⊥)) }
 {
-    let u = least_u(bounds);
-    if u < settings.reach + BEYOND {
+    if !are_beyond(settings, bounds) {
+        let u = least_u(bounds);
         return Err(ClearRefusal::Works { u });
     }
     Ok(())

@@ -1,13 +1,17 @@
 //! Whether a hit, moved to the hand's place, is clear of what is built: its bounds, and the way of its glider. x goes right and y goes down;
-//! u = x - y and v = x + y. No call takes memory.
+//! u = x - y and v = x + y. Only to build up a `BuiltSet` takes memory.
 #![tactic(auto)]
 
+mod barriers;
+pub mod built_set;
 pub mod clearance;
 pub mod laws;
 mod looking;
 pub mod moved;
 pub mod refusal;
+mod rows;
 
+pub use built_set::BuiltSet;
 pub use clearance::clear_hit;
 pub use moved::moved_frame;
 pub use refusal::ClearRefusal;
