@@ -1,0 +1,5 @@
+use Rattle.breadth_search.specs.OrderLaws.{same_from_at_most}
+use Rattle.breadth_search.proofs.laws.least_endings_are_one.Goals as goal
+
+pub returns : goal.returns
+returns g c = λ graph from a b h k. same_from_at_most a b (h.least b k.ends) (k.least a h.ends)

@@ -1,0 +1,17 @@
+//! Searches by breadth over states of any kind: numbers lead from state to state, and the least lists of numbers are found. Least is the
+//! shortest, and of these the first number by number.
+#![tactic(auto)]
+
+pub mod breadth;
+mod found;
+pub mod graph;
+pub mod key;
+pub mod labelling;
+pub mod laws;
+pub mod outcome;
+
+pub use breadth::search;
+pub use graph::{Ending, Graph, Step};
+pub use key::Key;
+pub use labelling::Labelling;
+pub use outcome::Outcome;
