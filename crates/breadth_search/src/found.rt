@@ -11,11 +11,28 @@ use std::alloc::Global;
 
 /// How a state was found.
 #[derive(Clone, Copy, Debug, PartialEq, Eq)]
-pub(crate) struct Label {
+pub struct Label {
     /// The place of the state before it, counted from 0 in the order in which they were found.
-    pub(crate) before: usize,
+    pub before: usize,
     /// The number that leads on from there.
-    pub(crate) number: usize,
+    pub number: usize,
+}
+
+/// The numbers that lead to the state at a place, by the labels of the states in the order in which they were found; the first has none.
+pub fn list_by_labels(alloc: Global, labels: &[Label], place: usize) -> Result<Vec<usize>, NoMemory>
+    requires prior { ArePrior labels.now }
+    requires within { place ≤ length labels.now }
+    ensures { IfOk result (λ list. (lists : List (List ℕ)) → AreLabelled labels.now lists → list.items ≡ get_or lists place []) }
+{
+    let mut list = Vec::new(alloc);
+    let mut at = place;
+    'back: while at > 0 {
+        let label = labels[at - 1];
+        list.push(label.number)?;
+        at = label.before;
+    }
+    list.reverse();
+    Ok(list)
 }
 
 /// States in the order in which they were found, and a label for each but the first.
@@ -84,14 +101,6 @@ impl<S: Key> Found<S> {
         requires within { place ≤ length self.now.labels.items }
         ensures { IfOk result (λ list. (lists : List (List ℕ)) → AreLabelled self.now.labels.items lists → list.items ≡ get_or lists place []) }
     {
-        let mut list = Vec::new(alloc);
-        let mut at = place;
-        'back: while at > 0 {
-            let label = self.labels[at - 1];
-            list.push(label.number)?;
-            at = label.before;
-        }
-        list.reverse();
-        Ok(list)
+        list_by_labels(alloc, &self.labels, place)
     }
 }

@@ -3,7 +3,7 @@
 #![tactic(auto)]
 
 pub mod breadth;
-mod found;
+pub mod found;
 pub mod graph;
 pub mod key;
 pub mod labelling;
@@ -11,6 +11,7 @@ pub mod laws;
 pub mod outcome;
 
 pub use breadth::search;
+pub use found::{Label, list_by_labels};
 pub use graph::{Ending, Graph, Step};
 pub use key::Key;
 pub use labelling::Labelling;
