@@ -18,10 +18,11 @@ use Rattle.build_plan.specs.TurnEvents.{turn_events, gliders_of}
 use Rattle.build_plan.specs.Stand.{Stand}
 use Rattle.build_plan.specs.Usable.{Taken, IsTaken, SaysFarewell, stand_after}
 use Rattle.build_plan.specs.Placing.{IsPlacing, moved_target, back_of}
+use Rattle.book_parts.specs.declared.limits.TheConstants.{MOST_GLIDERS}
 
 -- the most stream gliders of a plan
 abbrev pub most_gliders : ℕ
-most_gliders = 2 ^ 20
+most_gliders = MOST_GLIDERS
 
 -- at first: the start elbow at shift 0, no hand, nothing built, and all islands left
 abbrev pub first_stand : CheckedEntries → List Island → Stand

@@ -14,7 +14,7 @@ use Rattle.book_text.specs.Book.{Said}
 use Rattle.event_times.specs.Schedule.{Timed}
 use Rattle.event_times.specs.Pattern.{pattern, last_end}
 use Rattle.stream_time.specs.Numbered.{AreNumbered, count_of}
-use Rattle.stream_time.specs.Built.{most_gliders, ClosesStart, IsClosing, IsLeastStream, BuildingIsRefused, IsLong}
+use Rattle.stream_time.specs.Built.{ClosesStart, IsClosing, IsLeastStream, BuildingIsRefused, IsLong}
 use Rattle.stream_time.specs.declared.building.PlanError.TheVariants as stop
 use Rattle.life_cli.specs.Book.{book_tests}
 use Rattle.life_cli.specs.Inputs.{Told, book_input, pattern_input}
@@ -23,6 +23,7 @@ use Rattle.life_cli.specs.Stages.Stages.{Answer}
 use Rattle.life_cli.specs.declared.status.Which.TheVariants.{Target}
 use Rattle.life_cli.specs.declared.status.Status.{Status}
 use Rattle.life_cli.specs.declared.status.Status.TheVariants.{BadTarget, NotYet, NoPlan, StreamLong}
+use Rattle.book_parts.specs.declared.limits.TheConstants.{MOST_GLIDERS}
 
 -- ---- the target
 
@@ -42,7 +43,7 @@ CellRefuses s other = ⊥
 pub record CanClose (said : Said) (sound : List RawTurn) : Type 0 where
   pub list : List ℕ
   pub closes : ClosesStart sound said.settings.span said.start list
-  pub few : (least : List ℕ) (picked : List RawTurn) → IsClosing sound said.settings.span said.start least → AreNumbered sound least picked → count_of picked ≤ most_gliders
+  pub few : (least : List ℕ) (picked : List RawTurn) → IsClosing sound said.settings.span said.start least → AreNumbered sound least picked → count_of picked ≤ MOST_GLIDERS
 
 -- planning refuses so
 abbrev pub PlanRefuses : Said → List RawTurn → Status → Type 0

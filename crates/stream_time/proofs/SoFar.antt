@@ -19,6 +19,7 @@ use Rattle.elbow_graph.specs.NumberedLaws.{numbered_once}
 use Rattle.stream_time.specs.Laying.{IsShift, IsEarly, latest_start, IsPushed, IsLaidOut}
 use Rattle.stream_time.specs.declared.layout.Layout.{Layout}
 use Rattle.stream_time.specs.RangeLaws.{early_more}
+use Rattle.book_parts.specs.declared.limits.TheConstants.{MOST_DELAYS}
 
 -- ---- the numbers that are left
 
@@ -46,13 +47,13 @@ pub record IsCounted (turns : List RawTurn) (route : List ℕ) (whole : List Raw
   pub later : List RawTurn
   pub are : AreNumbered turns (drop place route) later
   pub sum : count + count_of later ≡ count_of whole
-  pub small : count ≤ place * 64
+  pub small : count ≤ place * MOST_DELAYS
 
 pub count_begins : (turns : List RawTurn) (route : List ℕ) (whole : List RawTurn) → AreNumbered turns route whole → IsCounted turns route whole 0 0
 count_begins turns route whole h = record { later = whole; are = h; sum = omega arith; small = omega arith }
 
 pub count_more : (turns : List RawTurn) (route : List ℕ) (whole : List RawTurn) (place count d n : ℕ) (here : RawTurn) → place < length route → IsNumbered turns (get_or route place d) here →
-    length here.delays ≤ 64 → n ≡ length here.delays → IsCounted turns route whole place count → IsCounted turns route whole (place + 1) (count + n)
+    length here.delays ≤ MOST_DELAYS → n ≡ length here.delays → IsCounted turns route whole place count → IsCounted turns route whole (place + 1) (count + n)
 count_more turns route whole place count d n here lt numbered few is s =
     let next = next_turn turns route place s.later d lt s.are in
     let same : next.turn ≡ here = numbered_once turns (get_or route place d) next.turn here next.numbered numbered in

@@ -29,12 +29,13 @@ use Rattle.event_times.specs.Closing.{AreSoundHere, IsClosingStream}
 use Rattle.event_times.specs.ClosingLaws.{closing_stream_vanishes}
 use Rattle.stream_time.specs.RangeLaws.{stream_near, placed_near, both_near, near_in_range}
 use Rattle.life_cells.specs.Listed.{listed}
-use Rattle.stream_time.specs.Built.{most_gliders, IsClosing, IsBuilt, IsLong}
+use Rattle.stream_time.specs.Built.{IsClosing, IsBuilt, IsLong}
 use Rattle.stream_time.specs.Laying.{IsLaidOut}
 use Rattle.stream_time.specs.Numbered.{count_of}
 use Rattle.elbow_graph.specs.declared.goal.Goal.TheVariants as goals
 use Rattle.elbow_route.specs.ShortnessLaws.{least_route_is_short}
 use Rattle.stream_time.specs.declared.layout.Layout.{Layout}
+use Rattle.book_parts.specs.declared.limits.TheConstants.{MOST_GLIDERS}
 
 -- what holds of each kind holds of the one with a number
 pub kind_has : (P : Plane → Type 0) (kinds : List RawKind) → AllByRecursion (λ (kind : RawKind). P (alive kind.cells)) kinds → (k : ℕ) → IsKindNumber (length kinds) k → P (kind_plane kinds k)
@@ -160,14 +161,14 @@ short_list book list b least =
 
 -- too many gliders
 pub long_list : (book : CheckedEntries) (list : List ℕ) (count : ℕ) → IsCheckedBook book → IsClosing (raws book.turns) book.settings.span book.start list → ((picked : List RawTurn) → AreNumbered (raws book.turns) list picked → count ≡ count_of picked) →
-    most_gliders < count → IsLong (raws book.turns) book.settings.span book.start count
+    MOST_GLIDERS < count → IsLong (raws book.turns) book.settings.span book.start count
 long_list book list count b least is many =
     let w = whole book list b least in
     record { list = list; least = least; picked = w.picked; are = w.are; count_is = is w.picked w.are; many = many }
 
 -- what was built from the list's layout
 pub built_from : (book : CheckedEntries) (list : List ℕ) (layout : Layout) (cells : Cells) → IsCheckedBook book → IsClosing (raws book.turns) book.settings.span book.start list →
-    ((picked : List RawTurn) → AreNumbered (raws book.turns) list picked → count_of picked ≤ most_gliders) →
+    ((picked : List RawTurn) → AreNumbered (raws book.turns) list picked → count_of picked ≤ MOST_GLIDERS) →
     ((picked : List RawTurn) → AreNumbered (raws book.turns) list picked → IsLaidOut book.settings picked layout) →
     alive cells ≡ union (kind_plane book.kinds book.start) (listed layout.cells.items) → IsBuilt book (record { pattern = cells; n = layout.over })
 built_from book list layout cells b least few laid is =

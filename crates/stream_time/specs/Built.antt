@@ -16,10 +16,7 @@ use Rattle.stream_time.specs.Numbered.{AreNumbered, count_of}
 use Rattle.stream_time.specs.declared.building.Built.{Built}
 use Rattle.stream_time.specs.declared.building.PlanError.{PlanError}
 use Rattle.stream_time.specs.declared.building.PlanError.TheVariants.{NoClosing, StreamLong, Memory}
-
--- the most gliders of a stream
-abbrev pub most_gliders : ℕ
-most_gliders = 2 ^ 20
+use Rattle.book_parts.specs.declared.limits.TheConstants.{MOST_GLIDERS}
 
 -- a list of these turns closes the elbow of the start kind at shift 0
 abbrev pub ClosesStart : List RawTurn → ℤ → ℕ → List ℕ → Type 0
@@ -38,7 +35,7 @@ pub record IsLeastStream (settings : Settings) (sound : List RawTurn) (start : �
   pub in_time : turns ≡ timed picked (pos 0) 0
   pub walk : Closes start (pos 0) turns
   pub chosen : IsChosen settings no_past turns
-  pub few : count_of picked ≤ most_gliders
+  pub few : count_of picked ≤ MOST_GLIDERS
 
 -- the pattern and the number of its generations, at which nothing is left
 pub record IsBuilt (book : CheckedEntries) (built : Built) : Type 0 where
@@ -56,7 +53,7 @@ pub record IsLong (sound : List RawTurn) (span : ℤ) (start count : ℕ) : Type
   pub picked : List RawTurn
   pub are : AreNumbered sound list picked
   pub count_is : count ≡ count_of picked
-  pub many : most_gliders < count
+  pub many : MOST_GLIDERS < count
 
 -- nothing is built of these turns, and why
 abbrev pub BuildingIsRefused : List RawTurn → ℤ → ℕ → PlanError → Type 0

@@ -2,13 +2,14 @@
 use Rattle.std.specs.Prelude.{◌≡◌, ℕ, ℤ, ◌+◌, ◌*◌, ◌≤◌, ◌^◌, pos, neg_ℤ, ◌+ℤ◌, ◌≤ℤ◌, List}
 use Rattle.life_plane.specs.Plane.{union}
 use Rattle.life_cells.specs.Listed.{listed}
-use Rattle.book_parts.specs.Limits.{IsFrom}
+use Rattle.book_parts.specs.Limits.{IsFrom, farthest}
 use Rattle.book_parts.specs.declared.settings.Settings.{Settings}
 use Rattle.book_parts.specs.declared.turn.RawTurn.{RawTurn}
 use Rattle.event_times.specs.Schedule.{advance_of}
 use Rattle.event_times.specs.Pattern.{turn_gliders, stream, last_end}
-use Rattle.stream_time.specs.Timing.{timed, wait}
+use Rattle.stream_time.specs.Timing.{timed, wait, longest_wait}
 use Rattle.stream_time.specs.declared.layout.Layout.{Layout}
+use Rattle.book_parts.specs.declared.limits.TheConstants.{LONGEST_TURN}
 
 -- a shift of the elbow on the way
 abbrev pub IsShift : ℤ → Type 0
@@ -27,9 +28,9 @@ IsTime z = IsFrom (neg_ℤ (pos (2 ^ 58))) (pos (2 ^ 58)) z
 
 -- the elbow's shift and the next start after so many turns
 pub record IsEarly (turns : ℕ) (shift : ℤ) (start : ℕ) : Type 0 where
-  pub west : neg_ℤ (pos (turns * 2 ^ 30)) ≤ℤ shift
-  pub east : shift ≤ℤ pos (turns * 2 ^ 30)
-  pub late : start ≤ turns * 2 ^ 33
+  pub west : neg_ℤ (pos (turns * farthest)) ≤ℤ shift
+  pub east : shift ≤ℤ pos (turns * farthest)
+  pub late : start ≤ turns * (LONGEST_TURN + longest_wait)
 
 -- one more turn is laid out
 pub record IsPushed (settings : Settings) (turn : RawTurn) (old new : Layout) : Type 0 where

@@ -1,10 +1,11 @@
 -- Turns one after the other, each as soon as it may start: moves, and a closing turn last.
-use Rattle.std.specs.Prelude.{◌≡◌, ◌⊎◌, ℕ, ◌+◌, ◌^◌, ℤ, pos, negsuc, ◌+ℤ◌, ◌*ℤ◌, List, [], ◌∷◌}
+use Rattle.std.specs.Prelude.{◌≡◌, ◌⊎◌, ℕ, ◌+◌, ◌*◌, ℤ, pos, negsuc, ◌+ℤ◌, ◌*ℤ◌, List, [], ◌∷◌}
 use Rattle.std.specs.declared.option.Option.TheVariants.{Some, None}
 use Rattle.life_plane.specs.Tracks.{gap}
 use Rattle.book_parts.specs.declared.turn.RawTurn.{RawTurn}
 use Rattle.book_parts.specs.declared.turn.TurnEnd.{TurnEnd}
 use Rattle.event_times.specs.Schedule.{Timed, end, advance_of, Past}
+use Rattle.book_parts.specs.Limits.{farthest}
 
 -- a number, where it isn't negative; else none
 abbrev pub natural_part : ℤ → ℕ
@@ -15,9 +16,9 @@ natural_part (negsuc n) = 0
 abbrev pub wait : TurnEnd → ℕ
 wait e = natural_part (pos gap +ℤ pos 4 *ℤ advance_of e)
 
--- as long at most, since an elbow moves on by at most 2^30 cells
+-- as long at most, since an elbow moves on by no more cells than a shift has
 abbrev pub longest_wait : ℕ
-longest_wait = 2 ^ 32 + gap
+longest_wait = 4 * farthest + gap
 
 -- these turns, the first of them at this shift and start, each next one when it may
 abbrev pub timed : List RawTurn → ℤ → ℕ → List Timed

@@ -7,17 +7,16 @@ ghost use Rattle.life_cells.specs.Listed.{listed};
 ghost use Rattle.book_parts.specs.Kinds.{kind_plane};
 ghost use Rattle.book_parts.specs.declared.turn.RawTurn.{RawTurn};
 ghost use Rattle.recipe_turn.specs.Checked.{raws};
-ghost use Rattle.stream_time.specs.Built.{most_gliders, IsClosing, IsBuilt, BuildingIsRefused, ClosingIsRefused, LengthIsRefused};
+ghost use Rattle.stream_time.specs.Built.{IsClosing, IsBuilt, BuildingIsRefused, ClosingIsRefused, LengthIsRefused};
 ghost use Rattle.stream_time.specs.Numbered.{AreNumbered, count_of};
+ghost use Rattle.book_parts.specs.declared.limits.TheConstants.{MOST_GLIDERS};
 
 use crate::laying::{count_gliders, lay_out};
+use book_parts::limits::MOST_GLIDERS;
 use elbow_route::{Elbow, route_to_close};
 use life_cells::{Cell, CellSet, NoMemory};
 use recipe_book::CheckedBook;
 use std::alloc::Global;
-
-/// The most gliders of a stream.
-const MOST_GLIDERS: u64 = 1 << 20;
 
 /// What a book builds.
 #[derive(Debug, Drop)]
@@ -64,7 +63,7 @@ fn closing_route(alloc: Global, book: &CheckedBook) -> Result<Vec<usize>, PlanEr
 // Refuses a list with too many gliders.
 fn check_length(book: &CheckedBook, route: &[usize]) -> Result<(), PlanError>
     requires { IsClosing (raws book.now.turns) book.now.settings.span book.now.start route.now }
-    ensures few { IfOk result (λ _. (picked : List RawTurn) → AreNumbered (raws book.now.turns) route.now picked → count_of picked ≤ most_gliders) }
+    ensures few { IfOk result (λ _. (picked : List RawTurn) → AreNumbered (raws book.now.turns) route.now picked → count_of picked ≤ MOST_GLIDERS) }
     ensures err { IfErr result (λ e. LengthIsRefused (raws book.now.turns) book.now.settings.span book.now.start e) }
 {
     let _ = book.settings();
@@ -103,7 +102,7 @@ fn pattern_of(alloc: Global, book: &CheckedBook, cells: &[Cell]) -> Result<CellS
 // The pattern of a list that closes the book's start elbow, and its number of generations.
 fn build(alloc: Global, book: &CheckedBook, route: &[usize]) -> Result<Built, NoMemory>
     requires least { IsClosing (raws book.now.turns) book.now.settings.span book.now.start route.now }
-    requires few { (picked : List RawTurn) → AreNumbered (raws book.now.turns) route.now picked → count_of picked ≤ most_gliders }
+    requires few { (picked : List RawTurn) → AreNumbered (raws book.now.turns) route.now picked → count_of picked ≤ MOST_GLIDERS }
     ensures { IfOk result (λ built. IsBuilt book.now built) }
 {
     let layout = lay_out(alloc, book.settings(), book.turns(), route)?;
