@@ -33,7 +33,7 @@ valid_turns settings past (m ∷ ms) v = (record { start = v.0; spares = spares_
 chosen_turns : (settings : Settings) (past : Past) (ms : List Timed) → IsChosen settings past ms → AreChosenEvents settings (alone past) (turn_events ms)
 chosen_turns settings past [] c = tt
 chosen_turns settings past (m ∷ ms) c = (
-  record { may = record { start = c.0.may; spares = spares_none m.turn.end m }; over = tt; least = λ other may over. c.0.least other may.start },
+  record { may = record { start = c.0.may; spares = spares_none m.turn.end m }; least = λ other may. c.0.least other may.start },
   chosen_turns settings (past_after past m) ms c.1,
 )
 

@@ -77,19 +77,15 @@ AreValidEvents settings past (Hit h ∷ events) = AreValidEvents settings (histo
 abbrev pub started : Timed → ℕ → Timed
 started m start = record { turn = m.turn; shift = m.shift; start = start }
 
--- no hit that has been ends after this moment
-abbrev pub AreOver : ℕ → List HasBeen → Type 0
-AreOver start hits = AllByRecursion (λ hit. hit.ended ≤ℤ pos start) hits
-
--- one thing after the other: each turn starts at the least moment at which it may and no hit goes on
-pub record IsLeastInOrder (settings : Settings) (past : History) (m : Timed) : Type 0 where
+-- a turn starts at the least moment at which it may
+pub record StartsEarliest (settings : Settings) (past : History) (m : Timed) : Type 0 where
   pub may : MayHappen settings past m
-  pub over : AreOver m.start past.hits
-  pub least : (other : ℕ) → MayHappen settings past (started m other) → AreOver other past.hits → m.start ≤ other
+  pub least : (other : ℕ) → MayHappen settings past (started m other) → m.start ≤ other
 
+-- each turn in order starts as soon as it may, with any number of gliders in flight
 abbrev pub AreChosenEvents : Settings → History → List Event → Type 0
 AreChosenEvents settings past [] = Unit {0}
-AreChosenEvents settings past (Turn m ∷ events) = IsLeastInOrder settings past m × AreChosenEvents settings (history_after past (Turn m)) events
+AreChosenEvents settings past (Turn m ∷ events) = StartsEarliest settings past m × AreChosenEvents settings (history_after past (Turn m)) events
 AreChosenEvents settings past (Hit h ∷ events) = AreChosenEvents settings (history_after past (Hit h)) events
 
 -- the gliders of all turns
