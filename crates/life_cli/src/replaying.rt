@@ -27,8 +27,8 @@ fn run_tiles<L: Ledger>(
     generations: u32,
     steps: &mut Steps<L>,
 ) -> Result<(), NoMemory>
-    requires { IsInRange (2 ^ 40) (alive tiles.old) }
-    ensures run { OnOk result (alive tiles.new ≡ run generations (alive tiles.old)) }
+    requires { IsInRange (2 ^ 40) (alive tiles.old.cells) }
+    ensures run { OnOk result (alive tiles.new.cells ≡ run generations (alive tiles.old.cells)) }
     ensures least { steps.old ≤ steps.new }
     ensures most { steps.new ≤ steps.old + generations }
 {

@@ -1,6 +1,6 @@
 -- What tiles show as a set, before and after a step.
-use Rattle.std.proofs.Common.{◌≡◌, ◌≢◌, Bool, true, false, List, Option, Some, None, Ok, Err, sym, ap, subst, ◌∙◌}
-use Rattle.std.specs.Prelude.{IfSome, IfNone, Result, OnErr}
+use Rattle.std.proofs.Common.{◌≡◌, ◌≢◌, Bool, true, false, List, Option, Some, None, Ok, Err, refl, sym, ap, subst, ◌∙◌}
+use Rattle.std.specs.Prelude.{IfSome, IfNone, Result, IsOk, OnErr}
 use Rattle.std.specs.Bool.{MatchBool}
 use Rattle.life_cells.specs.Boxes.{IsLeastBox, IsBoxOf}
 use Rattle.life_cells.specs.declared.bounds.Bounds.{Bounds}
@@ -40,13 +40,18 @@ pub on_err : {T E : Type 0} (r : Result T E) {P : Type 0} → P → OnErr r P
 on_err (Ok x) p = tt
 on_err (Err x) p = p
 
+-- a call succeeds unless what holds of a failure holds
+pub ok_unless : {T E : Type 0} (r : Result T E) (P : Type 0) → OnErr r P → (P → ⊥) → IsOk r
+ok_unless (Ok x) P h none = refl
+ok_unless (Err e) P h none = absurd (none h)
+
 pub made_same : (before after : TileMap) → IsTiled before → OnlyMakes before after → set_of after ≡ set_of before
 made_same before after tiled makes = same_sets after before makes.tiled tiled (ap plane_of_words makes.words)
 
-module _ (first made filled last : TileMap) (makes : OnlyMakes first made) (filled_tiled : IsTiled filled) (places : filled.places ≡ made.places) (rows : filled.rows ≡ made.rows) where
+module _ (first made filled last : TileMap) (words : words_of made ≡ words_of first) (filled_tiled : IsTiled filled) (places : filled.places ≡ made.places) (rows : filled.rows ≡ made.rows) where
   -- no cell changes before the words of the next generation take their place
   pub cells_stay : cells_of filled ≡ cells_of first
-  cells_stay = (λ i. plane_of_words (word_at (places i).keys (rows i).items)) ∙ ap plane_of_words makes.words
+  cells_stay = (λ i. plane_of_words (word_at (places i).keys (rows i).items)) ∙ ap plane_of_words words
 
   pub cells_next : IsClosed made → IsStepped filled → last.places ≡ filled.places → last.rows ≡ filled.next → cells_of last ≡ step (cells_of first)
   cells_next closed stepped last_places last_rows =

@@ -2,7 +2,7 @@
 use Rattle.std.proofs.Common.{◌≡◌, ◌⊎◌, ℕ, zero, suc, ◌+◌, ◌*◌, ◌/◌, ◌^◌, ◌<◌, ◌≤◌, ◌==◌, Bool, true, false, not, eqb, ◌&&◌, ◌||◌, IsTrue, ℤ, pos, negsuc, ◌+ℤ◌, ◌-ℤ◌, ◌*ℤ◌, ◌≤ℤ◌, length, slice_get, slice_index, get_or, Some, refl, sym, ap, ap₂, subst, ◌∙◌, arith, rules, inl, inr}
 use Rattle.std.proofs.lemmas.Option.{slice_get_within, slice_get-get_or}
 use Rattle.std.specs.Int.{bit_at}
-use Rattle.std.proofs.lemmas.Bool.{cases_lt}
+use Rattle.std.proofs.lemmas.Bool.{cases_lt, or_cases}
 use Rattle.std.proofs.lemmas.Int.{ints}
 use Rattle.std.proofs.lemmas.Nat.Bits.{bit_at-zero}
 use lib.Bits.{bit_and, bit_or}
@@ -24,10 +24,10 @@ pub has_more : (before after : TileMap) (column row : ℤ) → OnlyMakes before 
 has_more before after column row makes has = record { index = has.index; at = makes.keeps has.index (place column row) has.at }
 
 pub makes_none : (m : TileMap) → IsTiled m → OnlyMakes m m
-makes_none m tiled = record { tiled = tiled; words = refl; lasts = refl; calm = refl; recent = refl; keeps = λ i p h. h }
+makes_none m tiled = record { tiled = tiled; words = refl; lasts = refl; calm = refl; recent = refl; room = omega arith; keeps = λ i p h. h }
 
 pub makes_both : (a b d : TileMap) → OnlyMakes a b → OnlyMakes b d → OnlyMakes a d
-makes_both a b d f g = record { tiled = g.tiled; words = g.words ∙ f.words; lasts = g.lasts ∙ f.lasts; calm = g.calm ∙ f.calm; recent = g.recent ∙ f.recent; keeps = λ i p h. g.keeps i p (f.keeps i p h) }
+makes_both a b d f g = record { tiled = g.tiled; words = g.words ∙ f.words; lasts = g.lasts ∙ f.lasts; calm = g.calm ∙ f.calm; recent = g.recent ∙ f.recent; room = (let a = f.room in let b = g.room in omega arith); keeps = λ i p h. g.keeps i p (f.keeps i p h) }
 
 -- ---- numbers beside a number
 
@@ -70,11 +70,11 @@ test_one : test 1 0 ≡ true
 unfolding test
 test_one = refl
 
-pub first_bit : (w k : ℕ) → k ≡ 0 → test w k ≡ true → IsTrue (not (eqb (bit_and w 1) 0))
-first_bit w k e h = some_bit (bit_and w 1) 0 (test-and w 1 0 ∙ ap₂ (λ a b. a && b) (ap (test w) (sym e) ∙ h) test_one)
+pub first_bit : (w : ℕ) → test w 0 ≡ true → IsTrue (not (eqb (bit_and w 1) 0))
+first_bit w h = some_bit (bit_and w 1) 0 (test-and w 1 0 ∙ ap₂ (λ a b. a && b) h test_one)
 
-pub last_bit : (w k : ℕ) → k ≡ 63 → test w k ≡ true → IsTrue (not (eqb (w / 2 ^ 63) 0))
-last_bit w k e h = some_bit (w / 2 ^ 63) 0 (test-shr 63 0 w ∙ ap (test w) (sym e) ∙ h)
+pub last_bit : (w : ℕ) → test w 63 ≡ true → IsTrue (not (eqb (w / 2 ^ 63) 0))
+last_bit w h = some_bit (w / 2 ^ 63) 0 (test-shr 63 0 w ∙ h)
 
 pub more_bits : (any w k : ℕ) → (test any k ≡ true) ⊎ (test w k ≡ true) → test (bit_or any w) k ≡ true
 more_bits any w k h = test-or any w k ∙ by (test any k) (test w k) h
@@ -83,6 +83,13 @@ more_bits any w k h = test-or any w k ∙ by (test any k) (test w k) h
     by true b g = refl
     by false b (inl g) = cc
     by false b (inr g) = g
+
+pub fewer_bits : (any w k : ℕ) → test (bit_or any w) k ≡ true → (test any k ≡ true) ⊎ (test w k ≡ true)
+fewer_bits any w k h = or_cases (test any k) (test w k) (sym (test-or any w k) ∙ h)
+
+pub no_bit_set : (k : ℕ) → test 0 k ≡ true → ⊥
+unfolding test
+no_bit_set k h = let dark : (bit_at 0 k == 1) ≡ false = ap (λ n. n == 1) (bit_at-zero k) in cc
 
 -- ---- about one tile
 
@@ -102,6 +109,17 @@ close_live s p x y range is live =
 -- what is made for one row of places
 pub record MakesRow (after : TileMap) (column row : ℤ) (word : ℕ) : Type 0 where
   pub about : (k : ℕ) (x a : ℤ) → k < 64 → test word k ≡ true → x ≡ pos 64 *ℤ column +ℤ pos k → a ≤ℤ (x +ℤ pos 1) → x ≤ℤ (a +ℤ pos 1) → HasTile after.places.keys (part a) row
+
+-- a row is made by its tile and those beside it
+pub row_made : (after : TileMap) (column row : ℤ) (word : ℕ) → ((k : ℕ) → test word k ≡ true → HasTile after.places.keys column row) → (test word 0 ≡ true → HasTile after.places.keys (column -ℤ pos 1) row)
+    → (test word 63 ≡ true → HasTile after.places.keys (column +ℤ pos 1) row) → MakesRow after column row word
+row_made after column row word here west east = record {
+  about = λ k x a h live is right left. elim (beside column k x a h is right left).cases [
+    | inl same ↦ subst (λ d. HasTile after.places.keys d row) (sym same) (here k live)
+    | inr (inl left_end) ↦ subst (λ d. HasTile after.places.keys d row) (sym left_end.1) (west (ap (test word) (sym left_end.0) ∙ live))
+    | inr (inr right_end) ↦ subst (λ d. HasTile after.places.keys d row) (sym right_end.1) (east (ap (test word) (sym right_end.0) ∙ live))
+  ];
+}
 
 pub row_kept : (before after : TileMap) (column row : ℤ) (word : ℕ) → OnlyMakes before after → MakesRow before column row word → MakesRow after column row word
 row_kept before after column row word makes row_made = record { about = λ k x a h t e r l. has_more before after (part a) row makes (row_made.about k x a h t e r l) }

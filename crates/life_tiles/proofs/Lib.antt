@@ -1,4 +1,5 @@
 pub mod Tiling
+pub mod Rooms
 pub mod Added
 pub mod Grown
 pub mod Stepped
@@ -6,4 +7,5 @@ pub mod Lists
 pub mod Boxed
 pub mod Evolved
 pub mod Pruned
+pub mod Counted
 pub mod Calmed

@@ -1,19 +1,26 @@
 -- Tiles that are given back.
-use Rattle.std.proofs.Common.{◌≡◌, ◌≢◌, ◌⊎◌, ℕ, zero, suc, ◌+◌, ◌-◌, ◌*◌, ◌<◌, ◌≤◌, ◌==◌, nat_eq, Bool, true, false, ℤ, List, length, slice_get, slice_index, slice_index_or, slice_set, Some, refl, sym, ap, ◌∙◌, arith, inl, inr}
+use Rattle.std.proofs.Common.{◌≡◌, ◌⊎◌, ℕ, zero, suc, ◌+◌, ◌*◌, ◌^◌, ◌<◌, ◌≤◌, ◌==◌, Bool, true, false, ℤ, pos, List, [], ◌∷◌, ◌++◌, length, slice_get, slice_index, Some, Ok, Err, refl, sym, ap, subst, ◌∙◌, arith, inl, inr, w64, length-append}
 use Rattle.std.specs.Int.{bit_at}
-use Rattle.std.specs.List.{IsDistinct, swap_remove}
+use Rattle.std.specs.List.{IsDistinct, list_any}
+use Rattle.std.specs.Prelude.{Result, IsOk, IfOk}
 use Rattle.std.proofs.lemmas.Bool.{cases_lt}
-use Rattle.std.proofs.lemmas.List.{get_or-set_other, get_or-set_same, length-set, get_or-take, length-take}
-use Rattle.std.proofs.lemmas.Nat.Bits.{bit_at-zero, bit_at-lt, same_from_bits}
+use Rattle.std.proofs.lemmas.Nat.Bits.{bit_at-zero, bit_at-lt, bit_at-trailing_zeros, same_from_bits}
 use Rattle.std.proofs.lemmas.Option.{slice_get_within, slice_get-get_or}
+use Rattle.indexmap.specs.IndexSet.{spare}
 use Rattle.life_kernel.specs.Rows.{test}
 use Rattle.life_kernel.specs.Words.{part, offset}
 use Rattle.life_kernel.specs.WordLaws.{offset_below}
+use Rattle.life_plane.specs.ListLaws.{same_item}
 use Rattle.life_tiles.specs.declared.place.Place.{Place}
-use Rattle.life_tiles.specs.Tiling.{place, index_of, same_place, word_at, HasTile, IsLong, IsEmptyTile}
-use Rattle.life_tiles.proofs.Tiling.{no_word, index_is, index_within, tile_at_index}
+use Rattle.life_tiles.specs.declared.tile_map.TileMap.{TileMap}
+use Rattle.life_tiles.specs.Tiling.{place, index_of, same_place, word_at, words_of, HasTile, IsTiled, IsEmptyTile, IsLiveTile}
+use Rattle.life_tiles.specs.Pruning.{EachLives, IsKeeping, SkipsTile, KeepsTile, Keeps}
+use Rattle.life_tiles.proofs.Tiling.{no_word, index_is, index_within, tile_at_index, member_at, slice_get_left, last_item, pushed_item}
 
--- ---- no live cell
+abbrev pub none : Place
+none = place (pos 0) (pos 0)
+
+-- ---- live cells
 
 no_bit : (w : ℕ) → ((k : ℕ) → test w k ≡ true → ⊥) → w ≡ 0
 unfolding test
@@ -24,7 +31,7 @@ no_bit w none = same_from_bits w 0 (λ k. by k (bit_at w k) refl (bit_at-lt w k)
     by k (suc zero) e h = absurd (none k (ap (λ n. n == 1) e))
     by k (suc (suc d)) e h = absurd (omega arith)
 
-dark_none : (w k : ℕ) → w ≡ 0 → test w k ≡ true → ⊥
+pub dark_none : (w k : ℕ) → w ≡ 0 → test w k ≡ true → ⊥
 unfolding test
 dark_none w k e h = let dark : (bit_at w k == 1) ≡ false = ap (λ n. bit_at n k == 1) e ∙ ap (λ n. n == 1) (bit_at-zero k) in cc
 
@@ -32,137 +39,223 @@ dark_none w k e h = let dark : (bit_at w k == 1) ≡ false = ap (λ n. bit_at n 
 pub empty_tile : (rows : List ℕ) (index any : ℕ) → any ≡ 0 → ((down k : ℕ) → down < 64 → test (slice_index rows (64 * index + down)) k ≡ true → test any k ≡ true) → IsEmptyTile rows index
 empty_tile rows index any none has = record { words = λ down h. no_bit (slice_index rows (64 * index + down)) (λ k live. dark_none any k none (has down k h live)) }
 
--- ---- a place that is taken out
+-- a tile of which some column has a live cell has one
+pub live_tile : (rows : List ℕ) (index any : ℕ) → 0 < any → any < 2 ^ 64 → ((k : ℕ) → test any k ≡ true → (down : ℕ) × (down < 64) × (test (slice_index rows (64 * index + down)) k ≡ true)) → IsLiveTile rows index
+unfolding test
+live_tile rows index any some fits has =
+    let first = bit_at-trailing_zeros w64 any some fits in
+    let found = has _ (ap (λ n. n == 1) first.1) in
+    record { down = found.0; right = _; below = found.1; within = first.0; lives = found.2 }
 
-module _ (ks : List Place) (i : ℕ) (d : Place) (within : i < length ks) where
-  pub swap_length : length (swap_remove ks i d) + 1 ≡ length ks
-  swap_length =
-      let e : length (swap_remove ks i d) ≡ length ks - 1 = simp (length-take, length-set) (omega arith) in
-      omega arith
+-- what holds where a call succeeds
+pub from_ok : {T E : Type 0} (r : Result T E) (P : Type 0) → IsOk r → IfOk r (λ x. P) → P
+from_ok (Ok x) P ok h = h
+from_ok (Err e) P ok h = cc
 
-  last_read : slice_index_or ks (length ks - 1) d ≡ slice_index_or ks (length ks - 1) d
-  last_read = refl
+-- ---- tile by tile
 
-  swap_here : i + 1 < length ks → slice_get (swap_remove ks i d) i ≡ slice_get ks (length ks - 1)
-  swap_here lt =
-      let few : i < length ks - 1 = omega arith in
-      let short : i < length (swap_remove ks i d) = omega (arith, swap_length) in
-      let last : length ks - 1 < length ks = omega arith in
-      slice_get-get_or (swap_remove ks i d) i d short
-      ∙ ap Some (get_or-take (length ks - 1) (slice_set ks i (slice_index_or ks (length ks - 1) d)) i d few ∙ get_or-set_same ks i (slice_index_or ks (length ks - 1) d) d within)
-      ∙ sym (slice_get-get_or ks (length ks - 1) d last)
+-- the tile at the index is none of those that are kept
+pub fresh_none : (m : TileMap) (index : ℕ) (p : Place) → IsKeeping m index → slice_get m.places.keys index ≡ Some p → list_any (same_place p) m.kept.keys ≡ false
+fresh_none m index p keeping at = by (list_any (same_place p) m.kept.keys) refl
+  where
+    by : (b : Bool) → list_any (same_place p) m.kept.keys ≡ b → list_any (same_place p) m.kept.keys ≡ false
+    by false e = e
+    by true e = let has = member_at m.kept.keys p e in absurd (keeping.fresh has.index p has.at at)
 
-  swap_there : (j : ℕ) → j + 1 < length ks → j ≢ i → slice_get (swap_remove ks i d) j ≡ slice_get ks j
-  swap_there j lt other =
-      let few : j < length ks - 1 = omega arith in
-      let short : j < length (swap_remove ks i d) = omega (arith, swap_length) in
-      let here : j < length ks = omega arith in
-      slice_get-get_or (swap_remove ks i d) j d short
-      ∙ ap Some (get_or-take (length ks - 1) (slice_set ks i (slice_index_or ks (length ks - 1) d)) j d few ∙ get_or-set_other ks i j (slice_index_or ks (length ks - 1) d) d other)
-      ∙ sym (slice_get-get_or ks j d here)
+-- the tile that is kept k-th has the words of a live tile
+pub record IsKept (first now : TileMap) (index k : ℕ) (p : Place) : Type 0 where
+  pub from : ℕ
+  pub before : from < index
+  pub at : slice_get first.places.keys from ≡ Some p
+  pub lives : IsLiveTile first.rows.items from
+  pub words : (down : ℕ) → down < 64 → slice_index now.rows.items (64 * k + down) ≡ slice_index first.rows.items (64 * from + down)
 
-  -- what is left was there, at its index or last
-  pub swap_item : (j : ℕ) (q : Place) → slice_get (swap_remove ks i d) j ≡ Some q → (j + 1 < length ks) × (((j ≡ i) × (slice_get ks (length ks - 1) ≡ Some q)) ⊎ ((j ≢ i) × (slice_get ks j ≡ Some q)))
-  swap_item j q h =
-      let short = slice_get_within (swap_remove ks i d) j q h in
-      let lt : j + 1 < length ks = omega (arith, swap_length) in
-      (lt, by lt (nat_eq j i) refl)
-    where
-      by : j + 1 < length ks → (b : Bool) → nat_eq j i ≡ b → ((j ≡ i) × (slice_get ks (length ks - 1) ≡ Some q)) ⊎ ((j ≢ i) × (slice_get ks j ≡ Some q))
-      by lt true e =
-          let same : j ≡ i = grind arith in
-          let lt' : i + 1 < length ks = omega arith in
-          inl (same, sym (swap_here lt') ∙ ap (slice_get (swap_remove ks i d)) (sym same) ∙ h)
-      by lt false e = let other : j ≢ i = grind arith in inr (other, sym (swap_there j lt other) ∙ h)
+-- the tiles before this index are looked at
+pub record KeepsTo (first now : TileMap) (index : ℕ) : Type 0 where
+  pub places : now.places ≡ first.places
+  pub next : now.next ≡ first.next
+  pub room : now.room ≡ first.room
+  pub spare : now.room ≤ length now.kept.keys + spare now.kept
+  pub distinct : IsDistinct same_place now.kept.keys
+  pub long : length now.rows.items ≡ length first.rows.items
+  pub few : length now.kept.keys ≤ index
+  pub ahead : (j : ℕ) → 64 * index ≤ j → slice_index now.rows.items j ≡ slice_index first.rows.items j
+  pub kept : (k : ℕ) (p : Place) → slice_get now.kept.keys k ≡ Some p → IsKept first now index k p
+  pub all : (i : ℕ) (p : Place) → i < index → slice_get first.places.keys i ≡ Some p → IsEmptyTile first.rows.items i ⊎ HasTile now.kept.keys p.column p.row
 
--- behind the tiles that are left the words are 0
-pub tail_zero : (n from to : ℕ) (old new : List ℕ) → from + 64 ≡ 64 * n → to ≤ from → IsLong n old
-    → ((down : ℕ) → down < 64 → slice_index new (from + down) ≡ 0)
-    → ((j : ℕ) → (j < to) ⊎ (to + 64 ≤ j) → (j < from) ⊎ (from + 64 ≤ j) → slice_index new j ≡ slice_index old j)
-    → (m : ℕ) → from ≤ m → slice_index new m ≡ 0
-tail_zero n from to old new last before long cleared others m h = elim (cases_lt m (from + 64)) [
-  | inl lt ↦
-      let down : m - from < 64 = omega arith in
-      let is : from + (m - from) ≡ m = omega arith in
-      ap (slice_index new) (sym is) ∙ cleared (m - from) down
-  | inr ge ↦
-      let past : to + 64 ≤ m = omega arith in
-      others m (inr past) (inr ge) ∙ long.ends m (omega arith)
-]
+distinct_none : (eq : Place → Place → Bool) (ks : List Place) → ks ≡ [] → IsDistinct eq ks
+unfolding IsDistinct
+distinct_none eq ks e = subst (IsDistinct eq) (sym e) tt
 
-pub long_less : (n from to : ℕ) (old new : List ℕ) (left : ℕ) → left + 1 ≡ n → from + 64 ≡ 64 * n → to ≤ from → IsLong n old → length new ≡ length old
-    → ((down : ℕ) → down < 64 → slice_index new (from + down) ≡ 0)
-    → ((j : ℕ) → (j < to) ⊎ (to + 64 ≤ j) → (j < from) ⊎ (from + 64 ≤ j) → slice_index new j ≡ slice_index old j) → IsLong left new
-long_less n from to old new left count last before long same cleared others = record {
-  long = let l = long.long in omega arith;
-  ends = λ j h. tail_zero n from to old new last before long cleared others j (omega arith);
+none_there : (ks : List Place) (k : ℕ) (p : Place) → ks ≡ [] → slice_get ks k ≡ Some p → ⊥
+none_there ks k p e h = let no : slice_get [] k ≡ Some p = ap (λ (xs : List Place). slice_get xs k) (sym e) ∙ h in cc
+
+pub keeps_begin : (first : TileMap) → IsTiled first → KeepsTo first first 0
+keeps_begin first tiled = record {
+  places = refl;
+  next = refl;
+  room = refl;
+  spare = tiled.room.kept;
+  distinct = distinct_none same_place first.kept.keys tiled.none;
+  long = refl;
+  few = omega (arith, ap (λ (ks : List Place). length ks) tiled.none);
+  ahead = λ j h. refl;
+  kept = λ k p h. absurd (none_there first.kept.keys k p tiled.none h);
+  all = λ i p lt. absurd (omega arith);
 }
 
-module _ (ks : List Place) (rows new : List ℕ) (i : ℕ) (d : Place) (within : i < length ks) (distinct : IsDistinct same_place ks) (left : IsDistinct same_place (swap_remove ks i d)) (long : IsLong (length ks) rows) (from : ℕ) (last : from + 64 ≡ 64 * length ks)
-    (empty : IsEmptyTile rows i)
-    (moved : (down : ℕ) → down < 64 → 64 * i + 64 ≤ from → slice_index new (64 * i + down) ≡ slice_index rows (from + down))
-    (cleared : (down : ℕ) → down < 64 → slice_index new (from + down) ≡ 0)
-    (others : (j : ℕ) → (j < 64 * i) ⊎ (64 * i + 64 ≤ j) → (j < from) ⊎ (from + 64 ≤ j) → slice_index new j ≡ slice_index rows j) where
-  gone : (c y : ℤ) → length (swap_remove ks i d) ≤ index_of (swap_remove ks i d) c (part y) → word_at (swap_remove ks i d) new c y ≡ 0
+module _ (first now : TileMap) (index : ℕ) (tiled : IsTiled first) (within : index < length first.places.keys) (done : KeepsTo first now index) where
+  keys_same : now.places.keys ≡ first.places.keys
+  keys_same = rw done.places refl
+
+  -- the tile at the index is none of those that are kept
+  pub is_keeping : IsKeeping now index
+  is_keeping =
+      let few = tiled.room.few in
+      let same = done.room in
+      let long = tiled.rows.long in
+      let still = done.long in
+      record {
+        few = done.few;
+        room = omega arith;
+        spare = done.spare;
+        long = omega arith;
+        fresh = λ k p kept here.
+            let was = done.kept k p kept in
+            let a = index_is first.places.keys was.from p tiled.distinct was.at in
+            let b = index_is first.places.keys index p tiled.distinct (ap (λ (ks : List Place). slice_get ks index) (sym keys_same) ∙ here) in
+            let before = was.before in
+            omega arith;
+      }
+
+  module _ (after : TileMap) (keeps : Keeps now after index) where
+    skipped : SkipsTile now after index → KeepsTo first after (index + 1)
+    skipped skips = record {
+      places = keeps.places ∙ done.places;
+      next = keeps.next ∙ done.next;
+      room = keeps.room ∙ done.room;
+      spare = keeps.spare;
+      distinct = keeps.distinct done.distinct;
+      long = keeps.long ∙ done.long;
+      few = (let few = done.few in omega (arith, ap (λ (ks : List Place). length ks) skips.kept));
+      ahead = λ j h. skips.rows j ∙ done.ahead j (omega arith);
+      kept = λ k p h.
+          let was = done.kept k p (ap (λ (ks : List Place). slice_get ks k) (sym skips.kept) ∙ h) in
+          record { from = was.from; before = (let lt = was.before in omega arith); at = was.at; lives = was.lives; words = λ down lt. skips.rows (64 * k + down) ∙ was.words down lt };
+      all = λ i p lt h. elim (cases_lt i index) [
+        | inl less ↦ elim (done.all i p less h) [ inl empty ↦ inl empty | inr there ↦ inr (subst (λ (ks : List Place). HasTile ks p.column p.row) (sym skips.kept) there) ]
+        | inr ge ↦
+            let same : index ≡ i = omega arith in
+            inl (subst (IsEmptyTile first.rows.items) same (record { words = λ down below. sym (done.ahead (64 * index + down) (omega arith)) ∙ skips.empty.words down below }))
+      ];
+    }
+
+    added : (p : Place) → slice_get first.places.keys index ≡ Some p → KeepsTile now after index → KeepsTo first after (index + 1)
+    added p at adds =
+        let keys : after.kept.keys ≡ now.kept.keys ++ p ∷ [] = adds.kept p (ap (λ (ks : List Place). slice_get ks index) keys_same ∙ at) in
+        record {
+          places = keeps.places ∙ done.places;
+          next = keeps.next ∙ done.next;
+          room = keeps.room ∙ done.room;
+          spare = keeps.spare;
+          distinct = keeps.distinct done.distinct;
+          long = keeps.long ∙ done.long;
+          few = (let few = done.few in omega (arith, ap (λ (ks : List Place). length ks) keys, length-append now.kept.keys (p ∷ [])));
+          ahead = λ j h. let few = done.few in let past : 64 * length now.kept.keys + 64 ≤ j = omega arith in adds.others j (inr past) ∙ done.ahead j (omega arith);
+          kept = λ k q h. elim (pushed_item now.kept.keys p k q (ap (λ (ks : List Place). slice_get ks k) (sym keys) ∙ h)) [
+            | inl there ↦
+                let was = done.kept k q there in
+                let less = slice_get_within now.kept.keys k q there in
+                record { from = was.from; before = (let lt = was.before in omega arith); at = was.at; lives = was.lives; words = λ down lt. adds.others (64 * k + down) (inl (omega arith)) ∙ was.words down lt }
+            | inr new ↦
+                let is = new.0 in
+                record {
+                  from = index;
+                  before = omega arith;
+                  at = at ∙ ap Some new.1;
+                  lives = (let l = adds.lives in record { down = l.down; right = l.right; below = l.below; within = l.within; lives = ap (λ n. test n l.right) (sym (done.ahead (64 * index + l.down) (omega arith))) ∙ l.lives });
+                  words = λ down lt. ap (λ n. slice_index after.rows.items (64 * n + down)) is ∙ adds.moved down lt ∙ done.ahead (64 * index + down) (omega arith);
+                }
+          ];
+          all = λ i q lt h. elim (cases_lt i index) [
+            | inl less ↦ elim (done.all i q less h) [
+              | inl empty ↦ inl empty
+              | inr there ↦ inr (record { index = there.index; at = ap (λ (ks : List Place). slice_get ks there.index) keys ∙ slice_get_left now.kept.keys (p ∷ []) there.index _ there.at })
+            ]
+            | inr ge ↦
+                let same : i ≡ index = omega arith in
+                let is : p ≡ q = same_item at (ap (slice_get first.places.keys) (sym same) ∙ h) in
+                inr (record { index = length now.kept.keys; at = ap (λ (ks : List Place). slice_get ks (length now.kept.keys)) keys ∙ last_item now.kept.keys p ∙ ap Some is })
+          ];
+        }
+
+    -- one tile more is looked at
+    pub keeps_more : KeepsTo first after (index + 1)
+    keeps_more = elim keeps.either [ inl skips ↦ skipped skips | inr adds ↦ added _ (slice_get-get_or first.places.keys index none within) adds ]
+
+-- ---- all tiles
+
+-- words that are cleared up to those that were 0
+pub cleared_from : (from to : ℕ) (old new : List ℕ) → ((j : ℕ) → from ≤ j → j < to → slice_index new j ≡ 0) → ((j : ℕ) → (j < from) ⊎ (to ≤ j) → slice_index new j ≡ slice_index old j)
+    → ((j : ℕ) → to ≤ j → slice_index old j ≡ 0) → (j : ℕ) → from ≤ j → slice_index new j ≡ 0
+cleared_from from to old new cleared others ends j h = elim (cases_lt j to) [ inl lt ↦ cleared j h lt | inr ge ↦ others j (inr ge) ∙ ends j ge ]
+
+module _ (first now last : TileMap) (tiled : IsTiled first) (done : KeepsTo first now (length first.places.keys)) (places : last.places.keys ≡ now.kept.keys)
+    (cleared : (j : ℕ) → 64 * length now.kept.keys ≤ j → slice_index last.rows.items j ≡ 0)
+    (others : (j : ℕ) → j < 64 * length now.kept.keys → slice_index last.rows.items j ≡ slice_index now.rows.items j) where
+  word_stays : (c y : ℤ) → (index_of now.kept.keys c (part y) < length now.kept.keys) ⊎ (length now.kept.keys ≤ index_of now.kept.keys c (part y)) → word_at now.kept.keys last.rows.items c y ≡ word_at first.places.keys first.rows.items c y
   unfolding word_at
-  gone c y h =
-      let count = swap_length ks i d within in
-      tail_zero (length ks) from (64 * i) rows new last (omega arith) long cleared others (64 * index_of (swap_remove ks i d) c (part y) + offset y) (omega arith)
+  word_stays c y (inl lt) =
+      let k = index_of now.kept.keys c (part y) in
+      let was = done.kept (index_of now.kept.keys c (part y)) (place c (part y)) (tile_at_index now.kept.keys c (part y) lt) in
+      let down = offset_below y in
+      let here : 64 * index_of now.kept.keys c (part y) + offset y < 64 * length now.kept.keys = omega arith in
+      others (64 * index_of now.kept.keys c (part y) + offset y) here ∙ was.words (offset y) down
+      ∙ ap (λ n. slice_index first.rows.items (64 * n + offset y)) (sym (index_is first.places.keys was.from (place c (part y)) tiled.distinct was.at))
+  word_stays c y (inr ge) =
+      cleared (64 * index_of now.kept.keys c (part y) + offset y) (omega arith)
+      ∙ sym (elim (cases_lt (index_of first.places.keys c (part y)) (length first.places.keys)) [
+        | inl lt ↦ elim (done.all (index_of first.places.keys c (part y)) (place c (part y)) lt (tile_at_index first.places.keys c (part y) lt)) [
+          | inl empty ↦ empty.words (offset y) (offset_below y)
+          | inr has ↦ let within = index_within now.kept.keys c (part y) has in absurd (omega arith)
+        ]
+        | inr none ↦ no_word first.places.keys first.rows.items c y tiled.rows none
+      ])
 
-  not_left : (c t : ℤ) → ((j : ℕ) → slice_get (swap_remove ks i d) j ≡ Some (place c t) → ⊥) → length (swap_remove ks i d) ≤ index_of (swap_remove ks i d) c t
-  not_left c t none = elim (cases_lt (index_of (swap_remove ks i d) c t) (length (swap_remove ks i d))) [
-    | inl lt ↦ absurd (none (index_of (swap_remove ks i d) c t) (tile_at_index (swap_remove ks i d) c t lt))
-    | inr ge ↦ ge
-  ]
+  -- no word changes where empty tiles are given back
+  pub words_stay : words_of last ≡ words_of first
+  words_stay = ap (λ ks. word_at ks last.rows.items) places ∙ (λ l c y. word_stays c y (cases_lt (index_of now.kept.keys c (part y)) (length now.kept.keys)) l)
 
-  absent : (c y : ℤ) → length ks ≤ index_of ks c (part y) → word_at (swap_remove ks i d) new c y ≡ word_at ks rows c y
-  absent c y h = gone c y (not_left c (part y) (λ j there.
-      let was = swap_item ks i d within j (place c (part y)) there in
-      let in_old : HasTile ks c (part y) = elim was.1 [ inl l ↦ record { index = length ks - 1; at = l.1 } | inr r ↦ record { index = j; at = r.1 } ] in
-      let lt = index_within ks c (part y) in_old in
-      let less = lt in omega arith)) ∙ sym (no_word ks rows c y long h)
+  -- what holds of tiles holds of those that are left
+  pub left_tiled : length last.rows.items ≡ length now.rows.items → length last.next.items ≡ length first.next.items → ((j : ℕ) → 64 * length now.kept.keys ≤ j → slice_index last.next.items j ≡ 0)
+      → last.room ≡ now.room → spare last.places ≡ spare now.kept → last.kept.keys ≡ [] → length first.places.keys + spare first.places ≤ spare last.kept → IsTiled last
+  left_tiled rows_same next_same next_cleared room_same spares emptied freed =
+      let few = done.few in
+      let count : length last.places.keys ≡ length now.kept.keys = ap (λ (ks : List Place). length ks) places in
+      let others_count : length last.kept.keys ≡ 0 = ap (λ (ks : List Place). length ks) emptied in
+      let was_few = tiled.room.few in
+      let was_places = tiled.room.places in
+      let was_rows = tiled.room.rows in
+      let was_next = tiled.room.next in
+      let uses = done.spare in
+      let same = done.room in
+      let long = done.long in
+      record {
+        distinct = subst (IsDistinct same_place) (sym places) done.distinct;
+        rows = record { long = omega arith; ends = λ j h. cleared j (omega arith) };
+        next = record { long = omega arith; ends = λ j h. next_cleared j (omega arith) };
+        near = λ i p h. let was = done.kept i p (ap (λ (ks : List Place). slice_get ks i) (sym places) ∙ h) in tiled.near was.from p was.at;
+        room = record { few = omega arith; places = omega arith; kept = omega arith; rows = omega arith; next = omega arith };
+        none = emptied;
+      }
 
-  emptied : (c y : ℤ) → index_of ks c (part y) ≡ i → word_at (swap_remove ks i d) new c y ≡ word_at ks rows c y
-  unfolding word_at
-  emptied c y here = gone c y (not_left c (part y) (λ j there.
-      let was = swap_item ks i d within j (place c (part y)) there in
-      let few = was.0 in
-      elim was.1 [
-        | inl l ↦
-            let index = index_is ks (length ks - 1) (place c (part y)) distinct l.1 in
-            let same = l.0 in
-            omega arith
-        | inr r ↦
-            let index = index_is ks j (place c (part y)) distinct r.1 in
-            absurd (r.0 (sym index ∙ here))
-      ]))
-      ∙ sym (ap (λ n. slice_index rows (64 * n + offset y)) here ∙ empty.words (offset y) (offset_below y))
-
-  stays : (c y : ℤ) (j : ℕ) → slice_get (swap_remove ks i d) j ≡ Some (place c (part y)) → slice_index new (64 * j + offset y) ≡ slice_index rows (64 * index_of ks c (part y) + offset y) → word_at (swap_remove ks i d) new c y ≡ word_at ks rows c y
-  unfolding word_at
-  stays c y j there same = ap (λ n. slice_index new (64 * n + offset y)) (index_is (swap_remove ks i d) j (place c (part y)) left there) ∙ same
-
-  -- no word changes where an empty tile is taken out
-  pub word_left : (c y : ℤ) → word_at (swap_remove ks i d) new c y ≡ word_at ks rows c y
-  word_left c y = elim (cases_lt (index_of ks c (part y)) (length ks)) [
-    | inl lt ↦ by_here lt (nat_eq (index_of ks c (part y)) i) refl
-    | inr ge ↦ absent c y ge
-  ]
-    where
-      by_last : index_of ks c (part y) < length ks → index_of ks c (part y) ≢ i → (index_of ks c (part y) + 1 < length ks) ⊎ (length ks ≤ index_of ks c (part y) + 1) → word_at (swap_remove ks i d) new c y ≡ word_at ks rows c y
-      by_last lt other (inl few) =
-          let down = offset_below y in
-          let before : 64 * index_of ks c (part y) + offset y < from = omega arith in
-          stays c y (index_of ks c (part y)) (swap_there ks i d within (index_of ks c (part y)) few other ∙ tile_at_index ks c (part y) lt)
-          (others (64 * index_of ks c (part y) + offset y) (elim (cases_lt (index_of ks c (part y)) i) [ inl less ↦ inl (omega arith) | inr more ↦ inr (omega arith) ]) (inl before))
-      by_last lt other (inr ge) =
-          let index : index_of ks c (part y) ≡ length ks - 1 = omega arith in
-          let more : i + 1 < length ks = omega arith in
-          let at : from ≡ 64 * index_of ks c (part y) = omega arith in
-          let apart : 64 * i + 64 ≤ from = omega arith in
-          stays c y i (swap_here ks i d within more ∙ ap (slice_get ks) (sym index) ∙ tile_at_index ks c (part y) lt)
-          (moved (offset y) (offset_below y) apart ∙ ap (λ n. slice_index rows (n + offset y)) at)
-
-      by_here : index_of ks c (part y) < length ks → (b : Bool) → nat_eq (index_of ks c (part y)) i ≡ b → word_at (swap_remove ks i d) new c y ≡ word_at ks rows c y
-      by_here lt true e = emptied c y (grind arith)
-      by_here lt false e = let other : index_of ks c (part y) ≢ i = grind arith in by_last lt other (cases_lt (index_of ks c (part y) + 1) (length ks))
+  -- and each tile that is left has a live cell
+  pub each_lives : EachLives last
+  each_lives = record {
+    each = λ i h.
+        let few : i < length now.kept.keys = omega (arith, ap (λ (ks : List Place). length ks) places) in
+        let was = done.kept i _ (slice_get-get_or now.kept.keys i none few) in
+        let l = was.lives in
+        let below = l.below in
+        record { down = l.down; right = l.right; below = l.below; within = l.within; lives = ap (λ n. test n l.right) (others (64 * i + l.down) (omega arith) ∙ was.words l.down l.below) ∙ l.lives };
+  }

@@ -232,6 +232,7 @@ kept_tile m index tiled rested mark = record {
   rows = refl;
   calm = refl;
   recent = refl;
+  room = refl;
   marks = record { long = refl; marks = λ i h. h };
   outside = λ j h. refl;
   inside = λ p down y at h e. rested.each p down y mark at h e;

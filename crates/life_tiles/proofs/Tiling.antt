@@ -1,6 +1,5 @@
 -- Tiles by their places, and their words.
-use Rattle.std.proofs.Common.{◌≡◌, ◌⊎◌, ℕ, zero, suc, ◌+◌, ◌*◌, ◌^◌, ◌<◌, ◌≤◌, Bool, true, false, ◌&&◌, cond, eqb, ◌==◌, nat_lt, ℤ, pos, ◌+ℤ◌, ◌*ℤ◌, List, [], ◌∷◌, ◌++◌, length, get_or, slice_get, slice_index, Some, None, position, refl, sym, ap, ap₂, subst, ◌∙◌, arith, inl, inr, length-append}
-use Rattle.std.specs.Bool.{if◌then◌else◌}
+use Rattle.std.proofs.Common.{◌≡◌, ◌⊎◌, ℕ, zero, suc, ◌+◌, ◌*◌, ◌^◌, ◌<◌, ◌≤◌, Bool, true, false, ◌&&◌, cond, eqb, ◌||◌, ◌==◌, nat_lt, ℤ, pos, ◌+ℤ◌, ◌*ℤ◌, List, [], ◌∷◌, ◌++◌, length, get_or, slice_get, slice_index, Some, None, position, refl, sym, ap, ap₂, subst, ◌∙◌, arith, inl, inr}
 use Rattle.std.specs.List.{list_any, IsDistinct}
 use Rattle.std.specs.Ordering.{int_eq}
 use Rattle.std.specs.Cmp.{int_eq_equiv}
@@ -10,7 +9,6 @@ use Rattle.std.proofs.lemmas.List.Folds.{position_or_len_push}
 use Rattle.std.proofs.lemmas.List.Sums.{position_or_len_is, fails_before_first, passes_at_first}
 use Rattle.std.proofs.lemmas.Map.Keys.{apart_from_distinct}
 use Rattle.std.proofs.lemmas.Option.{slice_get_within, get_or_from_slice_get, slice_get-get_or}
-use Rattle.indexmap.specs.IndexSet.{insert_key}
 use Rattle.life_kernel.specs.Rows.{test}
 use Rattle.life_kernel.specs.Words.{part, offset, plane_of_words}
 use Rattle.std.specs.Int.{bit_at}
@@ -117,7 +115,7 @@ same_words places rows rows' same = λ i column y. same (64 * index_of places co
 
 -- ---- one place more
 
-long_more : (n m : ℕ) (rows : List ℕ) → IsLong n rows → n ≤ m → 64 * m ≤ length rows → IsLong m rows
+pub long_more : (n m : ℕ) (rows : List ℕ) → IsLong n rows → n ≤ m → 64 * m ≤ length rows → IsLong m rows
 long_more n m rows long le room = record { long = room; ends = λ j h. long.ends j (omega arith) }
 
 pub long_along : (n : ℕ) (rows rows' : List ℕ) → IsLong n rows → length rows ≤ length rows' → ((j : ℕ) → slice_index rows' j ≡ slice_index rows j) → IsLong n rows'
@@ -141,60 +139,43 @@ module _ (places : List Place) (rows : List ℕ) (long : IsLong (length places) 
           long.ends (64 * index_of (places ++ p ∷ []) column (part y) + offset y) (omega arith)
           ∙ sym (long.ends (64 * index_of places column (part y) + offset y) (omega arith))
 
-  -- a place that is inserted changes no word
-  pub inserted_words : word_at (insert_key same_place places p) rows ≡ word_at places rows
-  inserted_words = by (list_any (same_place p) places)
-    where
-      by : (b : Bool) → word_at (if b then places else places ++ p ∷ []) rows ≡ word_at places rows
-      by true = refl
-      by false = λ i column y. pushed_word column y i
+  -- a place more changes no word
+  pub pushed_words : word_at (places ++ p ∷ []) rows ≡ word_at places rows
+  pushed_words = λ i column y. pushed_word column y i
 
-slice_get_left : (xs ys : List Place) (i : ℕ) (q : Place) → slice_get xs i ≡ Some q → slice_get (xs ++ ys) i ≡ Some q
+pub slice_get_left : (xs ys : List Place) (i : ℕ) (q : Place) → slice_get xs i ≡ Some q → slice_get (xs ++ ys) i ≡ Some q
 slice_get_left [] ys i q h = cc
 slice_get_left (x ∷ xs) ys zero q h = h
 slice_get_left (x ∷ xs) ys (suc i) q h = slice_get_left xs ys i q h
 
--- an inserted place leaves the others where they are
-pub inserted_keeps : (places : List Place) (p : Place) (i : ℕ) (q : Place) → slice_get places i ≡ Some q → slice_get (insert_key same_place places p) i ≡ Some q
-inserted_keeps places p i q h = by (list_any (same_place p) places)
-  where
-    by : (b : Bool) → slice_get (if b then places else places ++ p ∷ []) i ≡ Some q
-    by true = h
-    by false = slice_get_left places (p ∷ []) i q h
+-- the last of a list
+pub last_item : (xs : List Place) (p : Place) → slice_get (xs ++ p ∷ []) (length xs) ≡ Some p
+last_item [] p = refl
+last_item (x ∷ xs) p = last_item xs p
 
--- there is at most one place more
-pub inserted_length : (places : List Place) (p : Place) → length (insert_key same_place places p) ≤ length places + 1
-inserted_length places p = by (list_any (same_place p) places)
-  where
-    by : (b : Bool) → length (if b then places else places ++ p ∷ []) ≤ length places + 1
-    by true = omega arith
-    by false = omega (arith, length-append places (p ∷ []))
-
-pub inserted_longer : (places : List Place) (p : Place) → length places ≤ length (insert_key same_place places p)
-inserted_longer places p = by (list_any (same_place p) places)
-  where
-    by : (b : Bool) → length places ≤ length (if b then places else places ++ p ∷ [])
-    by true = omega arith
-    by false = omega (arith, length-append places (p ∷ []))
-
-pushed_item : (xs : List Place) (p : Place) (i : ℕ) (q : Place) → slice_get (xs ++ p ∷ []) i ≡ Some q → (slice_get xs i ≡ Some q) ⊎ (q ≡ p)
-pushed_item [] p zero q h = inr (cc)
+-- each place was there, or is the last one
+pub pushed_item : (xs : List Place) (p : Place) (i : ℕ) (q : Place) → slice_get (xs ++ p ∷ []) i ≡ Some q → (slice_get xs i ≡ Some q) ⊎ ((i ≡ length xs) × (p ≡ q))
+pushed_item [] p zero q h = inr (refl, cc)
 pushed_item [] p (suc i) q h = cc
 pushed_item (x ∷ xs) p zero q h = inl h
-pushed_item (x ∷ xs) p (suc i) q h = pushed_item xs p i q h
+pushed_item (x ∷ xs) p (suc i) q h = elim (pushed_item xs p i q h) [ inl l ↦ inl l | inr r ↦ inr (ap suc r.0, r.1) ]
 
--- each place was there, or is the new one
-pub inserted_item : (places : List Place) (p : Place) (i : ℕ) (q : Place) → slice_get (insert_key same_place places p) i ≡ Some q → (slice_get places i ≡ Some q) ⊎ (q ≡ p)
-inserted_item places p i q = by (list_any (same_place p) places)
+-- a place that is among others stands at an index
+pub member_at : (places : List Place) (q : Place) → list_any (same_place q) places ≡ true → HasTile places q.column q.row
+member_at [] q h = cc
+member_at (p ∷ places) q h = by (member_at places q) (same_place q p) refl h
   where
-    by : (b : Bool) → slice_get (if b then places else places ++ p ∷ []) i ≡ Some q → (slice_get places i ≡ Some q) ⊎ (q ≡ p)
-    by true h = inl h
-    by false h = pushed_item places p i q h
+    by : (list_any (same_place q) places ≡ true → HasTile places q.column q.row) → (b : Bool) → same_place q p ≡ b → (b || list_any (same_place q) places) ≡ true → HasTile (p ∷ places) q.column q.row
+    by later true e h = record { index = 0; at = ap Some (sym (same_place_is q p e)) }
+    by later false e h = let t = later h in record { index = suc t.index; at = t.at }
 
-pub inserted_long : (places : List Place) (rows : List ℕ) (p : Place) → IsLong (length places) rows → 64 * (length places + 1) ≤ length rows → IsLong (length (insert_key same_place places p)) rows
-inserted_long places rows p long room =
-    let more = inserted_length places p in
-    long_more _ _ rows long (inserted_longer places p) (omega arith)
+-- a place that is not found is not among them
+pub absent : (places : List Place) (q : Place) → length places ≤ index_of places q.column q.row → list_any (same_place q) places ≡ false
+absent places q none = by (list_any (same_place q) places) refl
+  where
+    by : (b : Bool) → list_any (same_place q) places ≡ b → list_any (same_place q) places ≡ false
+    by false e = e
+    by true e = let within = index_within places q.column q.row (member_at places q e) in absurd (omega arith)
 
 -- ---- room
 

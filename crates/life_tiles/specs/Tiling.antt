@@ -3,12 +3,13 @@ use Rattle.std.specs.Prelude.{◌≡◌, ◌≢◌, ◌≤ℤ◌, neg_ℤ, ◌-�
 use Rattle.std.specs.List.{position_or_len, IsDistinct}
 use Rattle.std.specs.Ordering.{int_eq}
 use Rattle.std.proofs.Common.{get_or}
+use Rattle.indexmap.specs.IndexSet.{spare}
 use Rattle.life_cells.specs.declared.cell.Cell.{Cell}
 use Rattle.life_cells.specs.Cells.{cell, Cells, from_list}
 use Rattle.life_kernel.specs.Rows.{test}
 use Rattle.life_kernel.specs.Words.{Words, part, offset, plane_of_words, row_of_words, IsNextWord, AreNextWords}
 use Rattle.life_kernel.specs.declared.row.Row.{Row}
-use Rattle.life_plane.specs.Plane.{Plane, nothing}
+use Rattle.life_plane.specs.Plane.{Plane}
 use Rattle.life_plane.specs.Apart.{Within}
 use Rattle.life_tiles.specs.declared.place.Place.{Place}
 use Rattle.life_tiles.specs.declared.tile_map.TileMap.{TileMap}
@@ -58,12 +59,22 @@ pub record IsLong (tiles : ℕ) (rows : List ℕ) : Type 0 where
   pub long : 64 * tiles ≤ length rows
   pub ends : (j : ℕ) → 64 * tiles ≤ j → slice_index rows j ≡ 0
 
+-- there is memory for as many tiles as are told
+pub record HasRoom (m : TileMap) : Type 0 where
+  pub few : length m.places.keys ≤ m.room
+  pub places : m.room ≤ length m.places.keys + spare m.places
+  pub kept : m.room ≤ length m.kept.keys + spare m.kept
+  pub rows : 64 * m.room ≤ length m.rows.items
+  pub next : 64 * m.room ≤ length m.next.items
+
 -- what holds of tiles between two calls
 pub record IsTiled (m : TileMap) : Type 0 where
   pub distinct : IsDistinct same_place m.places.keys
   pub rows : IsLong (length m.places.keys) m.rows.items
   pub next : IsLong (length m.places.keys) m.next.items
   pub near : (i : ℕ) (p : Place) → slice_get m.places.keys i ≡ Some p → IsWithin (2 ^ 56) p
+  pub room : HasRoom m
+  pub none : m.kept.keys ≡ []
 
 -- ---- the set of the live cells
 
@@ -110,6 +121,7 @@ pub record OnlyMakes (before after : TileMap) : Type 0 where
   pub lasts : lasts_of after ≡ lasts_of before
   pub calm : after.calm ≡ before.calm
   pub recent : after.recent ≡ before.recent
+  pub room : before.room ≤ after.room
   pub keeps : (i : ℕ) (p : Place) → slice_get before.places.keys i ≡ Some p → slice_get after.places.keys i ≡ Some p
 
 -- there is a tile about each live cell and each of its neighbours
@@ -167,6 +179,7 @@ pub record FillsTile (before after : TileMap) (index : ℕ) : Type 0 where
   pub rows : after.rows ≡ before.rows
   pub calm : after.calm ≡ before.calm
   pub recent : after.recent ≡ before.recent
+  pub room : after.room ≡ before.room
   pub marks : OnlyWakes before.waking.items after.waking.items
   pub outside : (j : ℕ) → (j < 64 * index) ⊎ (64 * index + 64 ≤ j) → slice_index after.next.items j ≡ slice_index before.next.items j
   pub inside : (p : Place) (down : ℕ) (y : ℤ) → slice_get before.places.keys index ≡ Some p → down < 64 → y ≡ pos 64 *ℤ p.row +ℤ pos down
@@ -189,3 +202,11 @@ pub record AreSame (rows next : List ℕ) (low high : ℕ) : Type 0 where
 -- the words of the tile at this index have no live cell
 pub record IsEmptyTile (rows : List ℕ) (index : ℕ) : Type 0 where
   pub words : (down : ℕ) → down < 64 → slice_index rows (64 * index + down) ≡ 0
+
+-- they have one
+pub record IsLiveTile (rows : List ℕ) (index : ℕ) : Type 0 where
+  pub down : ℕ
+  pub right : ℕ
+  pub below : down < 64
+  pub within : right < 64
+  pub lives : test (slice_index rows (64 * index + down)) right ≡ true

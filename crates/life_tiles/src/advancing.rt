@@ -15,6 +15,7 @@ pub(crate) fn advance(tiles: &mut TileMap) -> bool
     ensures rows { tiles.new.rows ≡ tiles.old.next }
     ensures next { tiles.new.next ≡ tiles.old.rows }
     ensures calm { tiles.new.calm ≡ tiles.old.waking }
+    ensures room { tiles.new.room ≡ tiles.old.room }
     ensures changed { MatchBool result (cells_of tiles.new ≢ cells_of tiles.old) (cells_of tiles.new ≡ cells_of tiles.old) }
 {
     let changed = differ(&tiles.rows, &tiles.next, tiles.places.len());

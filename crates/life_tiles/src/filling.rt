@@ -20,7 +20,7 @@ pub(crate) fn add_cell(tiles: &mut TileMap, cell: Cell) -> Result<(), NoMemory>
     ensures recent { tiles.new.recent ≡ tiles.old.recent }
     ensures added { OnOk result (cells_of tiles.new ≡ union (cells_of tiles.old) (listed (cell ∷ []))) }
 {
-    let index = tiles.make(Place::of(cell))?;
+    let index = tiles.make(Place::of(cell), true)?;
     let at = SIDE * index + down_in_tile(cell);
     tiles.rows[at] |= 1 << right_in_tile(cell);
     Ok(())

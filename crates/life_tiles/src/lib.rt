@@ -4,6 +4,7 @@
 mod advancing;
 mod beside;
 mod bounding;
+mod counting;
 mod filling;
 mod growing;
 pub mod place;

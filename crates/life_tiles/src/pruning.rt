@@ -1,96 +1,80 @@
 //! Tiles with no live cell are given back.
 
-ghost use Rattle.std.specs.Prelude.{◌≡◌, ◌⊎◌, ℕ, ◌+◌, ◌*◌, ◌<◌, ◌≤◌, slice_index, length, IsTrue};
-ghost use Rattle.life_tiles.specs.Tiling.{IsTiled, IsRested, words_of, lasts_of, IsEmptyTile};
+ghost use Rattle.std.specs.Prelude.{◌≡◌, ◌⊎◌, ℕ, ◌+◌, ◌*◌, ◌<◌, ◌≤◌, [], false, slice_index, length};
+ghost use Rattle.life_tiles.specs.Tiling.{IsTiled, IsLiveTile, words_of};
+ghost use Rattle.life_tiles.specs.Pruning.{EachLives, IsKeeping, Keeps};
 
 use crate::growing::any_of;
 use crate::tile_map::{SIDE, TileMap};
+use std::mem::swap;
 
-// How many generations pass before empty tiles are given back: one beside live cells would be made anew at once.
-const SPAN: u32 = 64;
-
-/// Gives back the empty tiles, once in a while. No cell changes.
-pub(crate) fn tidy(tiles: &mut TileMap)
-    requires tiled { IsTiled tiles.old }
-    requires rested { IsRested tiles.old }
-    ensures tiled { IsTiled tiles.new }
-    ensures rested { IsRested tiles.new }
-    ensures words { words_of tiles.new ≡ words_of tiles.old }
-    ensures lasts { lasts_of tiles.new ≡ lasts_of tiles.old }
-    ensures recent { tiles.new.recent ≡ tiles.old.recent }
-{
-    if tiles.age < SPAN {
-        tiles.age += 1;
-    } else {
-        tiles.age = 0;
-        tiles.calm.clear();
-        drop_empty(tiles);
-    }
-}
-
-// Gives back each tile that has no live cell and had none a generation ago. No cell changes.
-fn drop_empty(tiles: &mut TileMap)
+/// Gives back the tiles with no live cell, and forgets what was a generation ago. No cell changes.
+pub(crate) fn prune(tiles: &mut TileMap)
     requires { IsTiled tiles.old }
     ensures tiled { IsTiled tiles.new }
     ensures words { words_of tiles.new ≡ words_of tiles.old }
-    ensures lasts { lasts_of tiles.new ≡ lasts_of tiles.old }
-    ensures recent { tiles.new.recent ≡ tiles.old.recent }
-    ensures calm { tiles.new.calm ≡ tiles.old.calm }
+    ensures lives { EachLives tiles.new }
+    ensures room { tiles.new.room ≡ tiles.old.room }
+    ensures recent { tiles.new.recent ≡ false }
+    ensures calm { tiles.new.calm.items ≡ [] }
 {
     let count = tiles.places.len();
-    'tiles: for back in 0..count {
-        drop_if_empty(tiles, count - 1 - back);
+    'tiles: for index in 0..count {
+        keep_if_live(tiles, index);
+    }
+    let kept = tiles.kept.len();
+    clear_words(&mut tiles.rows, SIDE * kept, SIDE * count);
+    clear_words(&mut tiles.next, SIDE * kept, SIDE * count);
+    swap(&mut tiles.places, &mut tiles.kept);
+    tiles.kept.clear();
+    tiles.calm.clear();
+    tiles.recent = false;
+}
+
+// Puts the tile at this index behind those that are kept, if it has a live cell.
+fn keep_if_live(tiles: &mut TileMap, index: usize)
+    requires keeping { IsKeeping tiles.old index }
+    requires within { index < length tiles.old.places.keys }
+    ensures { Keeps tiles.old tiles.new index }
+{
+    if any_of(&tiles.rows, SIDE * index) != 0 {
+        keep(tiles, index);
     }
 }
 
-// Gives back the tile at this index, if it has no live cell and had none a generation ago. The last tile takes its place.
-fn drop_if_empty(tiles: &mut TileMap, index: usize)
-    requires tiled { IsTiled tiles.old }
+// Puts the tile at this index, which has a live cell, behind those that are kept.
+fn keep(tiles: &mut TileMap, index: usize)
+    requires keeping { IsKeeping tiles.old index }
     requires within { index < length tiles.old.places.keys }
-    ensures tiled { IsTiled tiles.new }
-    ensures words { words_of tiles.new ≡ words_of tiles.old }
-    ensures lasts { lasts_of tiles.new ≡ lasts_of tiles.old }
-    ensures recent { tiles.new.recent ≡ tiles.old.recent }
-    ensures calm { tiles.new.calm ≡ tiles.old.calm }
-    ensures few { length tiles.old.places.keys ≤ length tiles.new.places.keys + 1 }
+    requires lives { IsLiveTile tiles.old.rows.items index }
+    ensures { Keeps tiles.old tiles.new index }
 {
-    let any = any_of(&tiles.rows, SIDE * index);
-    let was = any_of(&tiles.next, SIDE * index);
-    if any == 0 && was == 0 {
-        remove(tiles, index);
-    }
+    let place = tiles.places.as_slice()[index];
+    let to = tiles.kept.len();
+    let _ = tiles.kept.insert_full(place);
+    move_words(&mut tiles.rows, SIDE * index, SIDE * to);
 }
 
-// Gives back the tile at this index, which has no live cell and had none. The last tile takes its place.
-fn remove(tiles: &mut TileMap, index: usize)
-    requires tiled { IsTiled tiles.old }
-    requires within { index < length tiles.old.places.keys }
-    requires empty { IsEmptyTile tiles.old.rows.items index }
-    requires was_empty { IsEmptyTile tiles.old.next.items index }
-    ensures tiled { IsTiled tiles.new }
-    ensures words { words_of tiles.new ≡ words_of tiles.old }
-    ensures lasts { lasts_of tiles.new ≡ lasts_of tiles.old }
-    ensures recent { tiles.new.recent ≡ tiles.old.recent }
-    ensures calm { tiles.new.calm ≡ tiles.old.calm }
-    ensures few { length tiles.old.places.keys ≤ length tiles.new.places.keys + 1 }
-{
-    let last = tiles.places.len() - 1;
-    move_words(&mut tiles.rows, SIDE * last, SIDE * index);
-    move_words(&mut tiles.next, SIDE * last, SIDE * index);
-    let _ = tiles.places.swap_remove_index(index);
-}
-
-// Moves 64 words to an earlier place, and leaves 0 in theirs.
+// Copies 64 words to their place or an earlier one.
 fn move_words(words: &mut [u64], from: usize, to: usize)
     requires room { from + 64 ≤ length words.old }
-    requires apart { (from ≡ to) ⊎ (to + 64 ≤ from) }
-    ensures moved { (down : ℕ) → down < 64 → to + 64 ≤ from → slice_index words.new (to + down) ≡ slice_index words.old (from + down) }
-    ensures cleared { (down : ℕ) → down < 64 → slice_index words.new (from + down) ≡ 0 }
-    ensures others { (j : ℕ) → (j < to) ⊎ (to + 64 ≤ j) → (j < from) ⊎ (from + 64 ≤ j) → slice_index words.new j ≡ slice_index words.old j }
+    requires apart { (to ≡ from) ⊎ (to + 64 ≤ from) }
+    ensures moved { (down : ℕ) → down < 64 → slice_index words.new (to + down) ≡ slice_index words.old (from + down) }
+    ensures others { (j : ℕ) → (j < to) ⊎ (to + 64 ≤ j) → slice_index words.new j ≡ slice_index words.old j }
 {
     for down in 0..SIDE {
-        let word = words[from + down];
-        words[to + down] = word;
-        words[from + down] = 0;
+        words[to + down] = words[from + down];
+    }
+}
+
+// Makes the words from one index up to another 0.
+fn clear_words(words: &mut [u64], from: usize, to: usize)
+    requires order { from ≤ to }
+    requires room { to ≤ length words.old }
+    ensures cleared { (j : ℕ) → from ≤ j → j < to → slice_index words.new j ≡ 0 }
+    ensures others { (j : ℕ) → (j < from) ⊎ (to ≤ j) → slice_index words.new j ≡ slice_index words.old j }
+{
+    for at in from..to {
+        words[at] = 0;
     }
 }

@@ -20,6 +20,7 @@ pub(crate) fn fill_next(tiles: &mut TileMap)
     ensures places { tiles.new.places ≡ tiles.old.places }
     ensures rows { tiles.new.rows ≡ tiles.old.rows }
     ensures recent { tiles.new.recent ≡ tiles.old.recent }
+    ensures room { tiles.new.room ≡ tiles.old.room }
     ensures stepped { IsStepped tiles.new }
     ensures marked { IsMarked tiles.new.places.keys tiles.old.next.items tiles.new.next.items tiles.new.waking.items }
     ensures unmarked { tiles.old.recent ≡ false → tiles.new.waking.items ≡ [] }

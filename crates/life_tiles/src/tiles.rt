@@ -1,16 +1,17 @@
 //! A pattern that evolves.
 
-ghost use Rattle.std.specs.Prelude.{◌≡◌, ◌≢◌, ◌+◌, ◌≤◌, ◌^◌, IfOk, OnOk, OnErr, IfSome, IfNone};
+ghost use Rattle.std.specs.Prelude.{◌≡◌, ◌≢◌, ◌+◌, ◌*◌, ◌≤◌, ◌^◌, IsOk, IfOk, OnOk, OnErr, IfSome, IfNone};
 ghost use Rattle.std.specs.Bool.{MatchBool};
 ghost use Rattle.life_plane.specs.Plane.{step};
 ghost use Rattle.life_cells.specs.Cells.{alive, empty};
 ghost use Rattle.life_cells.specs.Boxes.{IsInRange, IsLeastBox};
+ghost use Rattle.life_tiles.specs.Tiled.{tile_count};
 
 use crate::advancing::advance;
 use crate::bounding::bounds_of;
 use crate::filling::tiles_with;
-use crate::growing::make_neighbours;
-use crate::pruning::tidy;
+use crate::counting::live_count;
+use crate::growing::make_all_neighbours;
 use crate::reading::live_cells;
 use crate::stepping::fill_next;
 use crate::tile_map::TileMap;
@@ -20,7 +21,7 @@ use std::alloc::Global;
 use std::marker::Model;
 use std::sync::ledger::Ledger;
 
-/// A finite set of cells that evolves by Conway's rule, seen as that set.
+/// A finite set of cells that evolves by Conway's rule, seen as that set beside the number of tiles for which there is memory.
 #[derive(Drop)]
 pub struct Tiles {
     alloc: Global,
@@ -28,14 +29,14 @@ pub struct Tiles {
 }
 
 impl Model for Tiles {
-    ghost use Rattle.life_cells.specs.Cells.{Cells, coded_cells};
+    ghost use Rattle.life_tiles.specs.Tiled.{TiledCells, coded_tiled_cells};
     ghost use Rattle.life_tiles.specs.Tiling.{set_of, IsTiled, IsRested, IsRecent};
 
-    ghost Value = { Cells };
+    ghost Value = { TiledCells };
 
-    ghost coded = { coded_cells };
+    ghost coded = { coded_tiled_cells };
 
-    ghost view = { λ t. set_of t.tiles };
+    ghost view = { λ t. record { cells = set_of t.tiles; spare = t.tiles.room } };
 
     ghost invariant = { λ t. IsTiled t.tiles × IsRested t.tiles × IsRecent t.tiles };
 }
@@ -44,33 +45,51 @@ impl Tiles {
     /// A pattern that begins with these cells.
     pub fn from_cells(alloc: Global, cells: &CellSet) -> Result<Tiles, NoMemory>
         requires { IsInRange (2 ^ 61) (alive cells.now) }
-        ensures { IfOk result (λ tiles. tiles ≡ cells.now) }
+        ensures { IfOk result (λ tiles. tiles.cells ≡ cells.now) }
     {
         let tiles = tiles_with(alloc, cells.cells())?;
         Ok(Tiles { alloc, tiles })
     }
 
-    /// Evolves the pattern by one generation, which is counted. The answer is whether a cell changed.
+    /// Takes memory for so many tiles, if there is less: the spare tiles. No cell changes.
+    pub fn reserve(&mut self, tiles: usize) -> Result<(), NoMemory>
+        ensures cells { self.new.cells ≡ self.old.cells }
+        ensures spare { OnOk result (tiles ≤ self.new.spare) }
+        ensures kept { self.old.spare ≤ self.new.spare }
+        ensures succeeds { tiles ≤ self.old.spare → IsOk result }
+    {
+        self.tiles.grow(tiles)
+    }
+
+    /// The number of tiles, aligned squares of 64 by 64 cells, that have a live cell.
+    pub fn tile_count(&self) -> usize
+        ensures { result ≡ tile_count self.now.cells }
+    {
+        live_count(&self.tiles)
+    }
+
+    /// Evolves the pattern by one generation, which is counted. The answer is whether a cell changed. It takes no memory where there
+    /// are nine spare tiles for each tile with a live cell.
     pub fn step<L: Ledger>(&mut self, steps: &mut Steps<L>) -> Result<bool, NoMemory>
-        requires { IsInRange (2 ^ 61) (alive self.old) }
-        ensures next { OnOk result (alive self.new ≡ step (alive self.old)) }
-        ensures changed { IfOk result (λ changed. MatchBool changed (self.new ≢ self.old) (self.new ≡ self.old)) }
+        requires { IsInRange (2 ^ 61) (alive self.old.cells) }
+        ensures next { OnOk result (alive self.new.cells ≡ step (alive self.old.cells)) }
+        ensures changed { IfOk result (λ changed. MatchBool changed (self.new.cells ≢ self.old.cells) (self.new.cells ≡ self.old.cells)) }
         ensures counted { OnOk result (steps.new ≡ steps.old + 1) }
-        ensures same { OnErr result (self.new ≡ self.old) }
+        ensures same { OnErr result (self.new.cells ≡ self.old.cells) }
         ensures least { steps.old ≤ steps.new }
         ensures most { steps.new ≤ steps.old + 1 }
+        ensures spare { self.old.spare ≤ self.new.spare }
+        ensures succeeds { 9 * tile_count self.old.cells ≤ self.old.spare → IsOk result }
     {
-        make_neighbours(&mut self.tiles)?;
+        make_all_neighbours(&mut self.tiles)?;
         steps.tick();
         fill_next(&mut self.tiles);
-        let changed = advance(&mut self.tiles);
-        tidy(&mut self.tiles);
-        Ok(changed)
+        Ok(advance(&mut self.tiles))
     }
 
     /// The cells now.
     pub fn to_cells(&self) -> Result<CellSet, NoMemory>
-        ensures { IfOk result (λ cells. cells ≡ self.now) }
+        ensures { IfOk result (λ cells. cells ≡ self.now.cells) }
     {
         let cells = live_cells(self.alloc, &self.tiles)?;
         let set = CellSet::from_cells(self.alloc, &cells)?;
@@ -79,8 +98,8 @@ impl Tiles {
 
     /// The least box about the cells; none where there is no cell. It takes no memory.
     pub fn bounds(&self) -> Option<Bounds>
-        ensures some { IfSome result (λ bounds. IsLeastBox bounds (alive self.now)) }
-        ensures none { IfNone result (self.now ≡ empty) }
+        ensures some { IfSome result (λ bounds. IsLeastBox bounds (alive self.now.cells)) }
+        ensures none { IfNone result (self.now.cells ≡ empty) }
     {
         bounds_of(&self.tiles)
     }

@@ -41,6 +41,7 @@ pub(crate) fn come_to_rest<L: Ledger>(
     ensures most { steps.new ≤ steps.old + MOST_COUNTED }
 {
     let mut tiles = Tiles::from_cells(alloc, start)?;
+    tiles.reserve(tiles.tile_count().saturating_mul(9))?;
     let mut bounds = bounds;
     for generation in 0..=LONGEST_HIT {
         if !tiles.step(steps)? {

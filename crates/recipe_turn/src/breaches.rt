@@ -53,8 +53,8 @@ impl Breaches {
         requires settings { AreProper settings.now }
         requires delays { AllByRecursion IsDelay delays.now }
         requires time { generation ≤ LONGEST_TURN }
-        requires range { IsInRange (2 ^ 41) (alive tiles.now) }
-        ensures { IfOk result (λ after. (start : Plane) → alive tiles.now ≡ run generation start → AreKnown settings.now delays.now start generation self
+        requires range { IsInRange (2 ^ 41) (alive tiles.now.cells) }
+        ensures { IfOk result (λ after. (start : Plane) → alive tiles.now.cells ≡ run generation start → AreKnown settings.now delays.now start generation self
             → AreKnown settings.now delays.now start (generation + 1) after) }
     {
         let Some(bounds) = tiles.bounds() else {

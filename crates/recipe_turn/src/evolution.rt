@@ -46,6 +46,7 @@ pub(crate) fn evolve<L: Ledger>(
     ensures most { steps.new ≤ steps.old + n }
 {
     let mut tiles = Tiles::from_cells(alloc, start)?;
+    tiles.reserve(tiles.tile_count().saturating_mul(9))?;
     let mut breaches = Breaches::none();
     for generation in 0..n {
         breaches = breaches.after(settings, delays, generation, &tiles)?;

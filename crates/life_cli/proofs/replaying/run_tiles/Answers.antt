@@ -12,7 +12,7 @@ pub step-requires : goal.step-requires
 step-requires g c =
     let test = c.loop-generation-test.true in
     let few = c.ranges.generations.fits in
-    near_enough (alive c.args.tiles.now) c.loop-generation._generation c.loop-generation.tiles _ c.requires (omega arith) (omega arith) c.loop-generation.invariant.run
+    near_enough (alive c.args.tiles.now.cells) c.loop-generation._generation c.loop-generation.tiles.cells _ c.requires (omega arith) (omega arith) c.loop-generation.invariant.run
 
 pub returns-in_err-step-clause-least : goal.returns-in_err-step-clause-least
 returns-in_err-step-clause-least g c = let so_far = c.loop-generation.invariant.least in let least = c.step.ensures.least in omega arith
@@ -23,8 +23,8 @@ returns-in_err-step-clause-most g c =
 
 pub returns-then-not-branch-clause-run : goal.returns-then-not-branch-clause-run
 returns-then-not-branch-clause-run g c =
-    no_more (alive c.args.tiles.now) c.loop-generation._generation c.args.generations c.loop-generation.tiles c.step.new.self c.loop-generation-test.true c.loop-generation.invariant.run c.in_ok-step.ensures.next
-    (subst (λ (b : Bool). MatchBool b (c.step.new.self ≢ c.loop-generation.tiles) (c.step.new.self ≡ c.loop-generation.tiles)) c.if-not-branch.true c.in_ok-step.ensures.changed)
+    no_more (alive c.args.tiles.now.cells) c.loop-generation._generation c.args.generations c.loop-generation.tiles.cells c.step.new.self.cells c.loop-generation-test.true c.loop-generation.invariant.run c.in_ok-step.ensures.next
+    (subst (λ (b : Bool). MatchBool b (c.step.new.self.cells ≢ c.loop-generation.tiles.cells) (c.step.new.self.cells ≡ c.loop-generation.tiles.cells)) c.if-not-branch.true c.in_ok-step.ensures.changed)
 
 pub returns-then-not-branch-clause-least : goal.returns-then-not-branch-clause-least
 returns-then-not-branch-clause-least g c = let so_far = c.loop-generation.invariant.least in let least = c.step.ensures.least in omega arith
@@ -40,7 +40,7 @@ loop-generation-preserved g c =
     let low = c.loop-generation.invariant.least in
     let high = c.loop-generation.invariant.most in
     record {
-      run = one_more (alive c.args.tiles.now) c.loop-generation._generation c.loop-generation.tiles c.step.new.self c.loop-generation.invariant.run c.in_ok-step.ensures.next;
+      run = one_more (alive c.args.tiles.now.cells) c.loop-generation._generation c.loop-generation.tiles.cells c.step.new.self.cells c.loop-generation.invariant.run c.in_ok-step.ensures.next;
       least = omega arith;
       most = omega arith;
     }
@@ -50,7 +50,7 @@ returns-clause-run g c =
     let all = c.loop-generation-test.false in
     let end = c.loop-generation.auto._generation-end in
     let last : c.loop-generation._generation ≡ c.args.generations = omega arith in
-    c.loop-generation.invariant.run ∙ ap (λ n. run n (alive c.args.tiles.now)) last
+    c.loop-generation.invariant.run ∙ ap (λ n. run n (alive c.args.tiles.now.cells)) last
 
 pub returns-clause-least : goal.returns-clause-least
 returns-clause-least g c = c.loop-generation.invariant.least

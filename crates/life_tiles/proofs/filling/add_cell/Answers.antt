@@ -1,4 +1,4 @@
-use Rattle.std.proofs.Common.{[], ◌∷◌, ◌+◌, ◌*◌, ◌<◌, Some, length, sym, ap, subst, ◌∙◌, arith}
+use Rattle.std.proofs.Common.{[], ◌∷◌, ◌+◌, ◌*◌, ◌<◌, Some, length, sym, ap, subst, ◌∙◌, arith, length-set, ℕ}
 use Rattle.std.proofs.lemmas.List.{get_or_default}
 use Rattle.std.proofs.lemmas.Option.{slice_get_within}
 use Rattle.life_cells.specs.Listed.{listed}
@@ -14,12 +14,12 @@ make-requires-clause-near c = tile_near c.args.cell _ c.requires.range c.of.ensu
 
 pub overflow_mul-at : goal.overflow_mul-at
 overflow_mul-at c =
-    let fits = rows_small _ c.make.ensures.tiled c.in_ok-index.index (slice_get_within _ _ _ c.in_ok-index.ensures.there) in
+    let fits = rows_small _ c.make.ensures.makes.tiled c.in_ok-index.index (slice_get_within _ _ _ c.in_ok-index.ensures.there) in
     omega arith
 
 pub overflow_add-at : goal.overflow_add-at
 overflow_add-at c =
-    let fits = rows_small _ c.make.ensures.tiled c.in_ok-index.index (slice_get_within _ _ _ c.in_ok-index.ensures.there) in
+    let fits = rows_small _ c.make.ensures.makes.tiled c.in_ok-index.index (slice_get_within _ _ _ c.in_ok-index.ensures.there) in
     let below = offset_below c.args.cell.y in
     omega (arith, c.down_in_tile.ensures)
 
@@ -28,24 +28,26 @@ overflow_shl-right_in_tile c = subst (λ n. n < 64) (sym c.right_in_tile.ensures
 
 pub index_mut-requires : goal.index_mut-requires
 index_mut-requires c =
-    let room = rows_room _ c.make.ensures.tiled c.in_ok-index.index (slice_get_within _ _ _ c.in_ok-index.ensures.there) in
+    let room = rows_room _ c.make.ensures.makes.tiled c.in_ok-index.index (slice_get_within _ _ _ c.in_ok-index.ensures.there) in
     let below = offset_below c.args.cell.y in
     omega (arith, c.down_in_tile.ensures)
 
 pub returns-clause-tiled : goal.returns-clause-tiled
 returns-clause-tiled c =
-    let tiled = c.make.ensures.tiled in
+    let tiled = c.make.ensures.makes.tiled in
     let at = c.in_ok-index.ensures.there ∙ ap Some c.of.ensures in
     record {
       distinct = tiled.distinct;
       rows = set_long_at _ _ c.in_ok-index.index c.args.cell tiled.distinct at tiled.rows _ _ c.down_in_tile.ensures;
       next = tiled.next;
       near = tiled.near;
+      room = record { few = tiled.room.few; places = tiled.room.places; kept = tiled.room.kept; rows = (let room = tiled.room.rows in omega (arith, length-set {A = ℕ})); next = tiled.room.next };
+      none = tiled.none;
     }
 
 pub returns-clause-added : goal.returns-clause-added
 returns-clause-added c =
-    let tiled = c.make.ensures.tiled in
+    let tiled = c.make.ensures.makes.tiled in
     let at = c.in_ok-index.ensures.there ∙ ap Some c.of.ensures in
     let room = rows_room _ tiled c.in_ok-index.index (slice_get_within _ _ _ c.in_ok-index.ensures.there) in
     let below = offset_below c.args.cell.y in
@@ -53,4 +55,4 @@ returns-clause-added c =
     let within : 64 * c.in_ok-index.index + c.down_in_tile.result < length c.make.new.self.rows.items = omega (arith, c.down_in_tile.ensures) in
     set_cell_at _ c.make.new.self.rows.items c.in_ok-index.index c.args.cell tiled.distinct at tiled.rows _ _ _ c.down_in_tile.ensures c.right_in_tile.ensures
     (c.index_mut.ensures.value ∙ get_or_default _ _ _ 0 within)
-    ∙ ap (λ w. union (plane_of_words w) (listed (c.args.cell ∷ []))) c.make.ensures.words
+    ∙ ap (λ w. union (plane_of_words w) (listed (c.args.cell ∷ []))) c.make.ensures.makes.words

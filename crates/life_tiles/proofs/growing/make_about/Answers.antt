@@ -3,7 +3,7 @@ use Rattle.std.proofs.lemmas.List.{get_or_default}
 use Rattle.life_kernel.specs.Words.{part}
 use Rattle.life_tiles.specs.declared.place.Place.{Place}
 use Rattle.life_tiles.specs.Tiling.{place, cells_of}
-use Rattle.life_tiles.proofs.Grown.{close_live, surrounded, MakesRow, row_kept, makes_both}
+use Rattle.life_tiles.proofs.Grown.{close_live, surrounded, MakesRow, row_made, row_kept, makes_both}
 use Rattle.life_tiles.proofs.Tiling.{item_of, rows_room}
 use Rattle.life_kernel.specs.Rows.{test}
 use Rattle.life_tiles.proofs.growing.make_about.Goals as goal
@@ -28,14 +28,17 @@ returns-clause-about c =
     let ok = c.args.tiles.now.rows.ok.0 in
     let first : 64 * c.args.index < length c.args.tiles.now.rows.items = omega arith in
     let last : 64 * c.args.index + 63 < length c.args.tiles.now.rows.items = omega arith in
-    let after = c.make_row-3.new.tiles in
+    let after = c.make_row-2.new.tiles in
     let above : MakesRow c.make_row.new.tiles c.above.result.column c.above.result.row c.index-top.result.now = record { about = c.in_ok-make_row.ensures.about } in
-    let here : MakesRow c.make_row-2.new.tiles p.column p.row c.any_of-any.result = record { about = c.in_ok-make_row-2.ensures.about } in
-    let below : MakesRow after c.below.result.column c.below.result.row c.index-bottom.result.now = record { about = c.in_ok-make_row-3.ensures.about } in
+    let here : MakesRow c.make_sides.new.tiles p.column p.row c.any_of-any.result =
+    row_made c.make_sides.new.tiles p.column p.row c.any_of-any.result
+    (λ k live. record { index = c.args.index; at = c.make_sides.ensures.makes.keeps c.args.index p (c.make_row.ensures.makes.keeps c.args.index p there) })
+    c.in_ok-make_sides.ensures.west c.in_ok-make_sides.ensures.east in
+    let below : MakesRow after c.below.result.column c.below.result.row c.index-bottom.result.now = record { about = c.in_ok-make_row-2.ensures.about } in
     surrounded c.args.tiles.now after c.args.index p c.requires.tiled there
     c.index-top.result.now c.any_of-any.result c.index-bottom.result.now
     (c.index-top.ensures ∙ get_or_default _ _ _ 0 first) (c.index-bottom.ensures ∙ get_or_default _ _ _ 0 last)
-    (λ down k h live. c.any_of-any.ensures down k h (ap (λ xs. test (slice_index xs (64 * c.args.index + down)) k) c.deref.ensures.value ∙ live))
-    (subst (λ (q : Place). MakesRow after q.column q.row c.index-top.result.now) c.above.ensures (row_kept _ _ _ _ _ (makes_both _ _ _ c.make_row-2.ensures.makes c.make_row-3.ensures.makes) above))
-    (row_kept _ _ _ _ _ c.make_row-3.ensures.makes here)
+    (λ down k h live. c.any_of-any.ensures.all down k h (ap (λ xs. test (slice_index xs (64 * c.args.index + down)) k) c.deref.ensures.value ∙ live))
+    (subst (λ (q : Place). MakesRow after q.column q.row c.index-top.result.now) c.above.ensures (row_kept _ _ _ _ _ (makes_both _ _ _ c.make_sides.ensures.makes c.make_row-2.ensures.makes) above))
+    (row_kept _ _ _ _ _ c.make_row-2.ensures.makes here)
     (subst (λ (q : Place). MakesRow after q.column q.row c.index-bottom.result.now) c.below.ensures below)

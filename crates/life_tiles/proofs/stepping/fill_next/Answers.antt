@@ -31,9 +31,10 @@ tiles-preserved c =
       fills.recent ∙ c.tiles.invariant.4,
       λ j h. fills.outside j (inr (omega arith)) ∙ c.tiles.invariant.5 j (omega arith),
       filled_more c.tiles.tiles c.fill_tile.new.tiles c.tiles.index _ at fills c.tiles.invariant.6,
+      fills.room ∙ c.tiles.invariant.7,
       subst (λ (ks : List Place). MarkedTo ks c.args.tiles.now.next.items c.fill_tile.new.tiles.next.items c.fill_tile.new.tiles.waking.items (c.tiles.index + 1)) (sym now)
           (marked_more c.tiles.tiles.places.keys c.args.tiles.now.next.items c.tiles.tiles.next.items c.fill_tile.new.tiles.next.items c.tiles.tiles.waking.items c.fill_tile.new.tiles.waking.items c.tiles.index _ at fills.marks fills.outside c.tiles.invariant.5
-          (λ i p r mark here there beside. fills.awake i p r mark here there beside) c.tiles.invariant.7),
+          (λ i p r mark here there beside. fills.awake i p r mark here there beside) c.tiles.invariant.8),
     )
 
 pub returns-clause-marked : goal.returns-clause-marked
@@ -42,4 +43,4 @@ returns-clause-marked c =
     let done = c.tiles.auto.index-end in
     let past = c.tiles-test.false in
     let count = c.len-count.ensures.len in
-    marked_end _ _ _ _ c.tiles.index (omega (arith, ap (λ (ks : List Place). length ks) keys)) c.tiles.invariant.7
+    marked_end _ _ _ _ c.tiles.index (omega (arith, ap (λ (ks : List Place). length ks) keys)) c.tiles.invariant.8

@@ -1,4 +1,4 @@
-use Rattle.std.proofs.Common.{◌≡◌, ◌⊎◌, ◌<◌, ◌≤◌, ◌+◌, ◌*◌, ◌+ℤ◌, ◌-ℤ◌, ◌^◌, pos, ℕ, List, length, get_or, slice_get, slice_index, Some, refl, sym, ap, subst, ◌∙◌}
+use Rattle.std.proofs.Common.{◌≡◌, ◌⊎◌, ◌<◌, ◌≤◌, ◌+◌, ◌*◌, ◌+ℤ◌, ◌-ℤ◌, ◌^◌, pos, ℕ, List, length, get_or, slice_get, slice_index, Some, refl, sym, ap, subst, ◌∙◌, arith}
 use Rattle.std.specs.Vec.{with_items}
 use Rattle.std.proofs.lemmas.List.{with_items_is}
 use Rattle.life_kernel.specs.Words.{IsNextWord}
@@ -52,11 +52,20 @@ returns c =
         next = long_still _ c.args.index c.args.tiles.now.next.items (with_items c.args.tiles.now.next c.step_tile-moved.new.next).items c.requires.within
             (ap (λ (xs : List ℕ). length xs) now ∙ c.step_tile-moved.auto.next ∙ ap (λ (xs : List ℕ). length xs) was) outside tiled.next;
         near = tiled.near;
+        room = record {
+          few = tiled.room.few;
+          places = tiled.room.places;
+          kept = tiled.room.kept;
+          rows = tiled.room.rows;
+          next = (let room = tiled.room.next in omega (arith, ap (λ (xs : List ℕ). length xs) now ∙ c.step_tile-moved.auto.next ∙ ap (λ (xs : List ℕ). length xs) was));
+        };
+        none = tiled.none;
       };
       places = refl;
       rows = refl;
       calm = refl;
       recent = refl;
+      room = refl;
       marks = c.wake_if.ensures.wakes;
       outside = outside;
       inside = λ q down y there h e.

@@ -11,13 +11,13 @@ step-requires g c = course_range (alive c.args.start.now) _ c.loop-generation.ge
 
 pub loop-generation-preserved : goal.loop-generation-preserved
 loop-generation-preserved g c =
-    let now = course_more (alive c.args.start.now) (alive c.loop-generation.tiles) _ c.loop-generation.generation c.loop-generation.invariant.now c.in_ok-step.ensures.next in
+    let now = course_more (alive c.args.start.now) (alive c.loop-generation.tiles.cells) _ c.loop-generation.generation c.loop-generation.invariant.now c.in_ok-step.ensures.next in
     record {
       now = now;
       moves = moves_more (alive c.args.start.now) c.loop-generation.generation c.loop-generation.invariant.moves
-          (not_still_now (alive c.args.start.now) c.loop-generation.tiles c.step.new.self c.loop-generation.generation c.loop-generation.invariant.now c.in_ok-step.ensures.next (holds_if_true c.in_ok-step.field-0 _ _ c.if-not-branch.false c.in_ok-step.ensures.changed));
+          (not_still_now (alive c.args.start.now) c.loop-generation.tiles.cells c.step.new.self.cells c.loop-generation.generation c.loop-generation.invariant.now c.in_ok-step.ensures.next (holds_if_true c.in_ok-step.field-0 _ _ c.if-not-branch.false c.in_ok-step.ensures.changed));
       bounds = ever_more (alive c.args.start.now) _ _ c.loop-generation.generation now
-          (c.grown-bounds.ensures (ever c.loop-generation.generation (alive c.args.start.now)) _ c.loop-generation.invariant.bounds (box_of_set _ c.step.new.self c.bounds.ensures.some c.bounds.ensures.none));
+          (c.grown-bounds.ensures (ever c.loop-generation.generation (alive c.args.start.now)) _ c.loop-generation.invariant.bounds (box_of_set _ c.step.new.self.cells c.bounds.ensures.some c.bounds.ensures.none));
       least = let least = c.step.ensures.least in omega arith;
       most = let most = c.step.ensures.most in omega arith;
     }

@@ -8,7 +8,7 @@ use Rattle.recipe_hit.proofs.rest.come_to_rest.Given as goal
 
 abbrev pub invariant-loop-generation : goal.invariant-loop-generation
 invariant-loop-generation g l = record {
-  now : alive l.tiles ≡ run l.generation (alive l.start);
+  now : alive l.tiles.cells ≡ run l.generation (alive l.start);
   moves : MovesBefore (alive l.start) l.generation;
   bounds : IsLeastBox l.bounds (ever l.generation (alive l.start));
   least : l.initial.steps ≤ l.steps;

@@ -13,7 +13,7 @@ step-requires g c = course_range (alive c.args.start.now) _ c.loop-generation.ge
 
 pub loop-generation-preserved : goal.loop-generation-preserved
 loop-generation-preserved g c = record {
-  now = course_more (alive c.args.start.now) (alive c.loop-generation.tiles) _ c.loop-generation.generation c.loop-generation.invariant.now c.in_ok-step.ensures.next;
+  now = course_more (alive c.args.start.now) (alive c.loop-generation.tiles.cells) _ c.loop-generation.generation c.loop-generation.invariant.now c.in_ok-step.ensures.next;
   known = c.in_ok-breaches.ensures (alive c.args.start.now) c.loop-generation.invariant.now c.loop-generation.invariant.known;
   least = let least = c.step.ensures.least in omega arith;
   most = let most = c.step.ensures.most in omega arith;
