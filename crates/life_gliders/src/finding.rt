@@ -10,11 +10,9 @@ ghost use Rattle.life_gliders.specs.Starts.{first_of_phase, StartsAt};
 
 use crate::beyond::{are_beyond, first_beyond};
 use crate::glider::cells_on;
+use crate::tables::FIRST_OF_PHASE;
 use crate::track::Track;
 use life_cells::{Cell, CellSet};
-
-/// For each phase at rest the cell that comes first once it is turned upside down, x before y.
-const FIRST_OF_PHASE: [(u8, u8); 4] = [(0, 2), (1, 3), (1, 3), (1, 3)];
 
 /// The cell of a phase at rest that comes first once the phase is turned upside down.
 fn first_at_rest(number: usize) -> (u8, u8)

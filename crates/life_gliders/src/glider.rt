@@ -6,16 +6,9 @@ ghost use Rattle.life_plane.specs.Tracks.{phase};
 ghost use Rattle.life_gliders.specs.Glider.{glider, IsLaneAtMost};
 ghost use Rattle.life_gliders.specs.Listing.{glider_list, placed, cell_at_rest};
 
+use crate::tables::PHASES;
 use crate::track::Track;
 use life_cells::Cell;
-
-/// The four phases of the stream's glider at rest, x before y.
-const PHASES: [[(u8, u8); 5]; 4] = [
-    [(1, 0), (2, 1), (0, 2), (1, 2), (2, 2)],
-    [(0, 1), (2, 1), (1, 2), (2, 2), (1, 3)],
-    [(2, 1), (0, 2), (2, 2), (1, 3), (2, 3)],
-    [(1, 1), (2, 2), (3, 2), (1, 3), (2, 3)],
-];
 
 /// The cells of a phase at rest.
 fn phase_at_rest(number: usize) -> [(u8, u8); 5]

@@ -6,6 +6,7 @@ mod beyond;
 pub mod finding;
 pub mod glider;
 pub mod laws;
+mod tables;
 pub mod track;
 
 pub use finding::find_salvo_glider;

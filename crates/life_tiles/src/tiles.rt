@@ -9,8 +9,8 @@ ghost use Rattle.life_tiles.specs.Tiled.{tile_count};
 
 use crate::advancing::advance;
 use crate::bounding::bounds_of;
-use crate::filling::tiles_with;
 use crate::counting::live_count;
+use crate::filling::tiles_with;
 use crate::growing::make_all_neighbours;
 use crate::reading::live_cells;
 use crate::stepping::fill_next;
