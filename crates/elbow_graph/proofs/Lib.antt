@@ -1,9 +1,5 @@
--- Lemmas on lists of numbers and on the search by breadth.
-pub mod Same
+-- Lemmas on tables of turns, and on the ways over a graph.
 pub mod Numbers
-pub mod Order
-pub mod ByBreadth
-pub mod Back
-pub mod Trying
+pub mod Tabling
+pub mod Leading
 pub mod Ending
-pub mod Outcomes

@@ -8,7 +8,7 @@ use Rattle.elbow_graph.specs.declared.goal.Goal.{Goal}
 use Rattle.elbow_graph.specs.declared.goal.Goal.TheVariants as goals
 use Rattle.elbow_graph.specs.Elbows.{elbow, IsInSpan, Leads}
 use Rattle.elbow_graph.specs.Numbered.{IsNumbered}
-use Rattle.elbow_graph.specs.Walks.{EndsWith, IsLeastEnding}
+use Rattle.breadth_search.specs.Walks.{EndsWith, IsLeastEnding}
 
 -- a turn of this end may stand before the last of a list: a move may, and where no end is wanted a throw may too
 abbrev pub MayPass : Goal → TurnEnd → Type 0

@@ -1,29 +1,22 @@
 -- How many elbows are reached.
-use Rattle.std.specs.Prelude.{◌≡◌, ◌↔◌, ℕ, ◌<◌, ◌≤◌, ℤ, pos, List, length}
-use Rattle.std.specs.List.{Contains, IsDistinct}
+use Rattle.std.specs.Prelude.{ℕ, ℤ, pos, List}
 use Rattle.book_parts.specs.declared.turn.RawTurn.{RawTurn}
+use Rattle.breadth_search.specs.States as breadth
+use Rattle.breadth_search.specs.Walks.{IsReached}
 use Rattle.elbow_graph.specs.declared.elbow.Elbow.{Elbow}
 use Rattle.elbow_graph.specs.declared.goal.Goal.TheVariants.{Anywhere}
 use Rattle.elbow_graph.specs.Elbows.{elbow}
 use Rattle.elbow_graph.specs.Exits.{exits_of}
 use Rattle.elbow_graph.specs.Goals.{Passes}
 use Rattle.elbow_graph.specs.SameElbows.{elbow_eq}
-use Rattle.elbow_graph.specs.Walks.{IsReached}
 
 -- so many elbows are reached from one, and no more than the limit
-pub record HasReached (Next : ℕ → Elbow → Elbow → Type 0) (from : Elbow) (limit count : ℕ) : Type 0 where
-  pub elbows : List Elbow
-  pub distinct : IsDistinct elbow_eq elbows
-  pub are : (at : Elbow) → Contains elbows at ↔ IsReached Next from at
-  pub count_is : length elbows ≡ count
-  pub within : count ≤ limit
+abbrev pub HasReached : (ℕ → Elbow → Elbow → Type 0) → Elbow → ℕ → ℕ → Type 0
+HasReached Next from limit count = breadth.HasReached elbow_eq Next from limit count
 
 -- more elbows than the limit are reached from one
-pub record HasReachedMore (Next : ℕ → Elbow → Elbow → Type 0) (from : Elbow) (limit : ℕ) : Type 0 where
-  pub elbows : List Elbow
-  pub distinct : IsDistinct elbow_eq elbows
-  pub reached : (at : Elbow) → Contains elbows at → IsReached Next from at
-  pub more : limit < length elbows
+abbrev pub HasReachedMore : (ℕ → Elbow → Elbow → Type 0) → Elbow → ℕ → Type 0
+HasReachedMore Next from limit = breadth.HasReachedMore elbow_eq Next from limit
 
 -- moves and throws of the turns lead from an elbow to another
 abbrev pub IsComeTo : List RawTurn → ℤ → Elbow → Elbow → Type 0

@@ -3,9 +3,11 @@
 ghost use Rattle.std.specs.Prelude.{pos, ◌≤ℤ◌, IfSome, IfNone};
 ghost use Rattle.elbow_graph.specs.Elbows.{Leads};
 ghost use Rattle.elbow_graph.specs.Exits.{exit_of};
+ghost use Rattle.elbow_graph.specs.SameElbowLaws.{same_elbow};
 
 use crate::exit::Exit;
 use book_parts::RawTurn;
+use breadth_search::Key;
 
 /// An elbow in the plane.
 #[derive(Clone, Copy, Debug, PartialEq, Eq, Hash)]
@@ -14,6 +16,10 @@ pub struct Elbow {
     pub kind: usize,
     /// How far it is moved, by (shift,shift).
     pub shift: i64,
+}
+
+impl Key for Elbow {
+    ghost same = { same_elbow };
 }
 
 /// The elbow that a turn leaves, where it begins at this one: none where its kind is another, where it closes, and where the shift

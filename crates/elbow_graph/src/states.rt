@@ -8,7 +8,7 @@ use crate::breadth::search;
 use crate::elbow::Elbow;
 use crate::goal::Goal;
 use crate::graph::ElbowGraph;
-use crate::outcome::Outcome;
+use breadth_search::Outcome;
 use life_cells::NoMemory;
 use recipe_turn::CheckedTurn;
 use std::alloc::Global;
