@@ -1,4 +1,5 @@
 -- The graph of the elbow: what turns do to it, lists of turns that are walked, the elbows that are reached, and tables of turns.
+pub mod ListOrder
 pub mod Exits
 pub mod Elbows
 pub mod Numbered

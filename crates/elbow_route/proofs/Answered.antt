@@ -3,8 +3,8 @@ use Rattle.std.proofs.Common.{◌≡◌, ℕ, ℤ, List, subst}
 use Rattle.elbow_graph.specs.declared.elbow.Elbow.{Elbow}
 use Rattle.elbow_graph.specs.declared.exit.Exit.{Exit}
 use Rattle.elbow_graph.specs.declared.goal.Goal.{Goal}
-use Rattle.elbow_graph.specs.declared.outcome.Outcome.{Outcome}
-use Rattle.elbow_graph.specs.declared.outcome.Outcome.TheVariants.{Nowhere}
+use Rattle.breadth_search.specs.declared.outcome.Outcome.{Outcome}
+use Rattle.breadth_search.specs.declared.outcome.Outcome.TheVariants.{Nowhere}
 use Rattle.elbow_graph.specs.Answers.{AnswersSo}
 use Rattle.elbow_graph.specs.Goals.{IsRoute}
 

@@ -1,3 +1,2 @@
 -- Lemmas on least lists.
 pub mod Answered
-pub mod OneList

@@ -6,7 +6,7 @@ use Rattle.elbow_graph.specs.declared.goal.Goal.TheVariants.{Anywhere, Closed, L
 use Rattle.elbow_graph.specs.Exits.{exits_of}
 use Rattle.elbow_graph.specs.Elbows.{IsInSpan}
 use Rattle.elbow_graph.specs.Goals.{Passes, IsRoute, IsLeastRoute}
-use Rattle.elbow_graph.specs.Walks.{LeadOn}
+use Rattle.breadth_search.specs.Walks.{LeadOn}
 
 -- a list of numbers closes the elbow: moves one after the other, each at the elbow that the one before leaves, and a closing turn last
 abbrev pub ClosesBy : List RawTurn → ℤ → Elbow → List ℕ → Type 0

@@ -9,7 +9,7 @@ use crate::show::{show_cells, show_lines};
 use book_parts::{Name, Numbers};
 use book_text::{read_book, write_book};
 use elbow_graph::elbow_states;
-use elbow_route::{Elbow, ElbowGraph, Goal, least_list, route_to_close, route_to_lane};
+use elbow_route::{Elbow, ElbowGraph, least_to_lane, route_to_close, route_to_lane};
 use life_cells::NoMemory;
 use life_steps::Steps;
 use recipe_book::{CheckedBook, check_book};
@@ -196,8 +196,8 @@ pub fn show_lanes<L: Ledger>(
     };
     let graph = ElbowGraph::of(alloc, book.turns())?;
     for lane in first..=last {
-        let goal = Goal::Lane(i64::from(lane));
-        let list = least_list(alloc, &graph, goal, Elbow { kind, shift }, span)?;
+        let from = Elbow { kind, shift };
+        let list = least_to_lane(alloc, &graph, from, i64::from(lane), span)?;
         write!(report, "{lane} {list:?}\n")?;
     }
     Ok(true)
