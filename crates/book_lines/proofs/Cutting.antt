@@ -22,7 +22,7 @@ use Rattle.book_lines.specs.declared.fault.LineError.{LineError}
 use Rattle.book_lines.specs.declared.fault.LineError.TheVariants.{Fault, Memory}
 use Rattle.book_lines.specs.Reads.{IsErrorOf}
 use Rattle.book_lines.proofs.Levels.{NumbersPass, heads}
-use Rattle.book_lines.proofs.Uniqueness.{one_number}
+use Rattle.book_lines.specs.NumberLaws.{one_number}
 use Rattle.book_lines.proofs.Pieces.{MayStand, no_colons}
 
 -- a list is cut at its first `:` in one way
@@ -167,9 +167,6 @@ placed_at l pass placed items t u v at e x y h =
     let same : placed.at ≡ at = λ i. record { y = same_y i; x = same_x i } in
     subst (λ (c : Cell). IsBodyAt l v c placed.body) same (subst (λ (w : List ℕ). IsBodyAt l w placed.at placed.body) texts.1.1 h.body_is)
 
-pub numbers_same : NumbersPass Numbers Numbers
-numbers_same text z h = h
-
 pub bodies_same : NumbersPass Bodies Numbers
 bodies_same text z h = h
 
@@ -291,9 +288,6 @@ emit_numbers items kind t u more e (Emit k shift lane j) n h =
     ((cell lane j, subst (λ (ts : List (List ℕ)). IsPair Numbers (cell lane j) ts) texts.1.1.1 h.1.1), (shift, step_numbers items kind t u more e k shift n h.0 h.1.0))
 
 -- ---- what a turn leaves, by its word
-
-close_word : (word : List ℕ) → word ≡ codes "close" → length word ≡ 5
-close_word word e = ap length e
 
 pub close_down : (l : Level) (items behind : List (List ℕ)) → items ≡ codes "close" ∷ behind → (leaves : Leaves) (n : ℤ) → IsEnding l leaves n items → IsOneNumber l n behind
 close_down l items behind e Close n h = let f = h.1.0 in let same : h.0 ≡ behind = cc in subst (λ (ts : List (List ℕ)). IsOneNumber l n ts) same h.1.1

@@ -15,16 +15,16 @@ use Rattle.rle_items.specs.Faults.{StopsWith}
 use Rattle.book_lines.specs.declared.statement.Body.{Body}
 use Rattle.book_lines.specs.declared.statement.Body.TheVariants.{Drawn, TooMany}
 use Rattle.book_lines.specs.declared.statement.Placed.{Placed}
-use Rattle.book_lines.specs.declared.statement.Spread.{Spread}
+use Rattle.book_lines.specs.declared.statement.SettingLine.{SettingLine}
 use Rattle.book_lines.specs.declared.statement.Leaves.{Leaves}
 use Rattle.book_lines.specs.declared.statement.Leaves.TheVariants.{Close, Move, Emit}
 use Rattle.book_lines.specs.declared.statement.TurnLine.{TurnLine}
 use Rattle.book_lines.specs.declared.statement.SalvoLine.{SalvoLine}
 use Rattle.book_lines.specs.declared.statement.Statement.{Statement}
-use Rattle.book_lines.specs.declared.statement.Statement.TheVariants.{Approach, Wall, Reach, Corner, Room, Span, Lanes, Delays, Hand, Elbow, Start, Turn, Salvo}
+use Rattle.book_lines.specs.declared.statement.Statement.TheVariants.{Setting, Hand, Elbow, Start, Turn, Salvo}
 use Rattle.book_lines.specs.Values.{Level, IsNumber, IsNumberAt, AreNumbersAt, Draws, IsBodyAt}
 use Rattle.book_lines.specs.Values.Level.{Form, Numbers, Bodies}
-use Rattle.book_lines.specs.Forms.{IsOneNumber, IsPair, IsSpread, IsBody, IsPlacedBody, IsStep, IsEnding, IsTurnLine, IsProduct, IsHand, IsSalvoLine}
+use Rattle.book_lines.specs.Forms.{IsOneNumber, IsPair, IsSettingLine, IsBody, IsPlacedBody, IsStep, IsEnding, IsTurnLine, IsProduct, IsHand, IsSalvoLine}
 use Rattle.book_lines.specs.Statements.{ItemsState, StatesAt}
 
 -- numbers of the one level are numbers of the other
@@ -42,18 +42,6 @@ pub pair_pass : (l m : Level) → NumbersPass l m → (c : Cell) (items : List (
 pair_pass l m f c items h =
     record { text_x = h.text_x; text_y = h.text_y; items_are = h.items_are; number_x = f _ _ h.number_x; number_y = f _ _ h.number_y }
 
-pub spread_pass : (l m : Level) → NumbersPass l m → (s : Spread) (items : List (List ℕ)) → IsSpread l s items → IsSpread m s items
-spread_pass l m f s items h = record {
-  text_low = h.text_low;
-  text_high = h.text_high;
-  text_len = h.text_len;
-  items_are = h.items_are;
-  number_low = f _ _ h.number_low;
-  number_high = f _ _ h.number_high;
-  number_len = f _ _ h.number_len;
-  order = h.order;
-}
-
 pub zip_pass : (l m : Level) → NumbersPass l m → (ts : List (List ℕ)) (zs : List ℤ) → AllZip (IsNumberAt l) ts zs → AllZip (IsNumberAt m) ts zs
 zip_pass l m f [] [] h = tt
 zip_pass l m f [] (z ∷ zs) h = h
@@ -62,6 +50,9 @@ zip_pass l m f (t ∷ ts) (z ∷ zs) h = (f t z h.0, zip_pass l m f ts zs h.1)
 
 pub numbers_pass : (l m : Level) → NumbersPass l m → (ts : List (List ℕ)) (zs : List ℤ) → AreNumbersAt l ts zs → AreNumbersAt m ts zs
 numbers_pass l m f ts zs h = record { each = zip_pass l m f ts zs h.each; some = h.some }
+
+pub setting_pass : (l m : Level) → NumbersPass l m → (s : SettingLine) (items : List (List ℕ)) → IsSettingLine l s items → IsSettingLine m s items
+setting_pass l m f s items h = record { numbers_are = numbers_pass l m f items s.numbers h.numbers_are; count = h.count; order = h.order }
 
 pub step_pass : (l m : Level) → NumbersPass l m → (kind : List ℕ) (shift n : ℤ) (items more : List (List ℕ)) → IsStep l kind shift n items more → IsStep m kind shift n items more
 step_pass l m f kind shift n items more h = record {
@@ -125,14 +116,7 @@ salvo_pass l m f g salvo items h = record {
 }
 
 items_pass : (l m : Level) → NumbersPass l m → BodiesPass l m → (s : Statement) (items : List (List ℕ)) → ItemsState l s items → ItemsState m s items
-items_pass l m f g (Approach z) items h = one_pass l m f z items h
-items_pass l m f g (Wall z) items h = one_pass l m f z items h
-items_pass l m f g (Reach z) items h = one_pass l m f z items h
-items_pass l m f g (Corner c) items h = pair_pass l m f c items h
-items_pass l m f g (Room z) items h = one_pass l m f z items h
-items_pass l m f g (Span z) items h = one_pass l m f z items h
-items_pass l m f g (Lanes s) items h = spread_pass l m f s items h
-items_pass l m f g (Delays s) items h = spread_pass l m f s items h
+items_pass l m f g (Setting s) items h = setting_pass l m f s items h
 items_pass l m f g (Hand body) items h = body_pass l m g body items h
 items_pass l m f g (Elbow elbow) items h =
     record { behind = h.behind; items_are = h.items_are; name_is = h.name_is; placed_is = placed_pass l m f g elbow.placed h.behind h.placed_is }

@@ -1,10 +1,10 @@
 pub mod Names
+pub mod Quarters
 pub mod Pieces
 pub mod Shifted
 pub mod Levels
 pub mod Uniqueness
 pub mod Drawing
-pub mod Keys
 pub mod Cutting
 pub mod Lifting
 pub mod Stating

@@ -8,20 +8,24 @@ use Rattle.rle_items.specs.declared.error.BodyError.TheVariants as refusal
 use Rattle.book_lines.specs.declared.statement.Body.{Body}
 use Rattle.book_lines.specs.declared.statement.Body.TheVariants.{Drawn, TooMany}
 use Rattle.book_lines.specs.declared.statement.Placed.{Placed}
-use Rattle.book_lines.specs.declared.statement.Spread.{Spread}
+use Rattle.book_lines.specs.declared.statement.SettingLine.{SettingLine}
 use Rattle.book_lines.specs.declared.statement.Leaves.{Leaves}
 use Rattle.book_lines.specs.declared.statement.Leaves.TheVariants.{Close, Move, Emit}
 use Rattle.book_lines.specs.declared.statement.ElbowLine.{ElbowLine}
 use Rattle.book_lines.specs.declared.statement.TurnLine.{TurnLine}
 use Rattle.book_lines.specs.declared.statement.SalvoLine.{SalvoLine}
 use Rattle.book_lines.specs.declared.statement.Statement.{Statement}
-use Rattle.book_lines.specs.declared.statement.Statement.TheVariants.{Approach, Wall, Reach, Corner, Room, Span, Lanes, Delays, Hand, Elbow, Start, Turn, Salvo}
+use Rattle.book_lines.specs.declared.statement.Statement.TheVariants.{Setting, Hand, Elbow, Start, Turn, Salvo}
 use Rattle.book_lines.specs.Values.{IsNumber, IsBodyAt, AreNumbersAt}
 use Rattle.book_lines.specs.Values.Level.{Form, Numbers, Whole}
-use Rattle.book_lines.specs.Forms.{IsOneNumber, IsPair, IsSpread, IsBody, IsPlacedBody, IsElbowLine, IsStep, IsEnding, IsTurnLine, IsProduct, IsHand, IsSalvoLine}
-use Rattle.book_lines.specs.Statements.{spelling, keyword, ItemsState, States}
-use Rattle.book_lines.proofs.Keys.{one_keyword}
-use Rattle.book_lines.proofs.Uniqueness.{one_number, one_list}
+use Rattle.book_lines.specs.Forms.{IsOneNumber, IsPair, IsSettingLine, IsBody, IsPlacedBody, IsElbowLine, IsStep, IsEnding, IsTurnLine, IsProduct, IsHand, IsSalvoLine}
+use Rattle.book_lines.specs.declared.book_word.BookWord.TheVariants as word
+use Rattle.book_lines.specs.Words.{spelling}
+use Rattle.book_lines.specs.WordLaws.{one_keyword}
+use Rattle.book_lines.specs.Statements.{keyword, ItemsState, States}
+use Rattle.book_lines.proofs.Worded.{no_setting}
+use Rattle.book_lines.specs.NumberLaws.{one_number}
+use Rattle.book_lines.proofs.Uniqueness.{one_list}
 use Rattle.book_lines.proofs.Drawing.{OneMeaning, OneRefusal, NoRefusal}
 use Rattle.book_lines.proofs.Levels.{NumbersPass, BodiesPass, turn_pass, salvo_pass, zip_pass, numbers_form, bodies_form}
 use Rattle.book_lines.proofs.Pieces.{no_colons}
@@ -62,18 +66,6 @@ one_single items z w h k =
     let same : h.text ≡ k.text = cc in
     one_read h.text k.text z w same h.number k.number
 
-one_spread : (items : List (List ℕ)) (s t : Spread) → IsSpread Whole s items → IsSpread Whole t items → s ≡ t
-one_spread items s t h k =
-    let e = h.items_are in
-    let f = k.items_are in
-    let a : h.text_low ≡ k.text_low = cc in
-    let b : h.text_high ≡ k.text_high = cc in
-    let c : h.text_len ≡ k.text_len = cc in
-    let low = one_read h.text_low k.text_low s.low t.low a h.number_low k.number_low in
-    let high = one_read h.text_high k.text_high s.high t.high b h.number_high k.number_high in
-    let len = one_read h.text_len k.text_len s.len t.len c h.number_len k.number_len in
-    λ i. record { low = low i; high = high i; len = len i }
-
 one_word : (laws : BodyLaws) (items : List (List ℕ)) (b c : Body) → IsBody Whole b items → IsBody Whole c items → b ≡ c
 one_word laws items b c h k =
     let e = h.items_are in
@@ -96,6 +88,11 @@ same_zs : (ts us : List (List ℕ)) (zs ws : List ℤ) → ts ≡ us → AreNumb
 same_zs ts us zs ws e h k =
     let g = subst (λ (xs : List (List ℕ)). AreNumbersAt Whole xs zs) e h in
     one_list us zs ws (zip_pass Whole Numbers (λ t z p. p) us zs g.each) (zip_pass Whole Numbers (λ t z p. p) us ws k.each)
+
+one_setting : (items : List (List ℕ)) (s t : SettingLine) → s.word ≡ t.word → IsSettingLine Whole s items → IsSettingLine Whole t items → s ≡ t
+one_setting items s t word h k =
+    let numbers = same_zs items items s.numbers t.numbers refl h.numbers_are k.numbers_are in
+    λ i. record { word = word i; numbers = numbers i }
 
 one_step : (items : List (List ℕ)) (a b : List ℕ) (s t n m : ℤ) (more rest : List (List ℕ)) → IsStep Whole a s n items more → IsStep Whole b t m items rest
     → (a ≡ b) × ((s ≡ t) × ((n ≡ m) × (more ≡ rest)))
@@ -176,14 +173,13 @@ one_elbow laws items a b h k =
     λ i. record { name = name i; placed = placed i }
 
 one_items : (laws : BodyLaws) (items : List (List ℕ)) (s t : Statement) → keyword s ≡ keyword t → ItemsState Whole s items → ItemsState Whole t items → s ≡ t
-one_items laws items (Approach a) (Approach b) w h k = ap Approach (one_single items a b h k)
-one_items laws items (Wall a) (Wall b) w h k = ap Wall (one_single items a b h k)
-one_items laws items (Reach a) (Reach b) w h k = ap Reach (one_single items a b h k)
-one_items laws items (Corner a) (Corner b) w h k = ap Corner (one_pair items a b h k)
-one_items laws items (Room a) (Room b) w h k = ap Room (one_single items a b h k)
-one_items laws items (Span a) (Span b) w h k = ap Span (one_single items a b h k)
-one_items laws items (Lanes a) (Lanes b) w h k = ap Lanes (one_spread items a b h k)
-one_items laws items (Delays a) (Delays b) w h k = ap Delays (one_spread items a b h k)
+one_items laws items (Setting a) (Setting b) w h k = ap Setting (one_setting items a b (cc w) h k)
+one_items laws items (Setting a) (Hand b) w h k = absurd (no_setting items Whole a word.Hand refl w h)
+one_items laws items (Setting a) (Elbow b) w h k = absurd (no_setting items Whole a word.Elbow refl w h)
+one_items laws items (Setting a) (Start b) w h k = absurd (no_setting items Whole a word.Start refl w h)
+one_items laws items (Hand a) (Setting b) w h k = absurd (no_setting items Whole b word.Hand refl (sym w) k)
+one_items laws items (Elbow a) (Setting b) w h k = absurd (no_setting items Whole b word.Elbow refl (sym w) k)
+one_items laws items (Start a) (Setting b) w h k = absurd (no_setting items Whole b word.Start refl (sym w) k)
 one_items laws items (Hand a) (Hand b) w h k = ap Hand (one_word laws items a b h k)
 one_items laws items (Elbow a) (Elbow b) w h k = ap Elbow (one_elbow laws items a b h k)
 one_items laws items (Start a) (Start b) w h k = let e = h.items_are in let f = k.items_are in let same : a ≡ b = cc in ap Start same

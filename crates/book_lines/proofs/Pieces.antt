@@ -1,9 +1,8 @@
 -- Short lists of items, as numbers.
-use Rattle.std.proofs.Common.{◌≡◌, ◌≢◌, ℕ, ◌<◌, ◌≤◌, ℤ, pos, List, [], ◌∷◌, ◌++◌, length, map, take, codes, refl, sym, ap, subst, arith, zero, suc, get_or, drop, true, false, ◌==◌}
+use Rattle.std.proofs.Common.{◌≡◌, ◌≢◌, ℕ, ◌<◌, ◌≤◌, ℤ, pos, List, [], ◌∷◌, ◌++◌, length, map, take, codes, refl, ap, subst, arith, zero, suc, get_or, drop, true, false, ◌==◌}
 use Rattle.std.specs.List.{AllZip}
 use Rattle.life_cells.specs.Cells.{cell}
 use Rattle.life_cells.specs.declared.cell.Cell.{Cell}
-use Rattle.book_lines.specs.declared.statement.Spread.{Spread}
 use Rattle.std.proofs.Common.{◌+◌, Option, Some, None, add-one}
 use Rattle.std.proofs.lemmas.Bool.Decides.{nat_tests}
 use denote.Ref.{Bor}
@@ -11,7 +10,7 @@ use Rattle.book_lines.specs.Lines.{texts, HaveNoColon}
 use Rattle.book_lines.specs.Reads.{Reads}
 use Rattle.book_lines.specs.Values.{IsNumber, IsNumberAt}
 use Rattle.book_lines.specs.Values.Level.{Form, Numbers}
-use Rattle.book_lines.specs.Forms.{IsOneNumber, IsPair, IsSpread, AreInOrder}
+use Rattle.book_lines.specs.Forms.{IsOneNumber, IsPair}
 
 -- the text that a list gives past its end
 abbrev pub no_text : Bor (List ℕ)
@@ -49,41 +48,6 @@ pair_is items t u c e h =
     let x : h.text_x ≡ t = cc in
     let y : h.text_y ≡ u = cc in
     (subst (λ (v : List ℕ). IsNumber v c.x) x h.number_x, subst (λ (v : List ℕ). IsNumber v c.y) y h.number_y)
-
-pub spread_form : (items : List (List ℕ)) (t u v : List ℕ) → items ≡ t ∷ (u ∷ (v ∷ [])) → MayStand t → MayStand u → MayStand v → AreInOrder t u
-    → (spread : Spread) × IsSpread Form spread items
-spread_form items t u v e h k l o = (
-  record { low = pos 0; high = pos 0; len = pos 0 },
-  record { text_low = t; text_high = u; text_len = v; items_are = e; number_low = h; number_high = k; number_len = l; order = o },
-)
-
-pub spread_shown : (items : List (List ℕ)) (t u v : List ℕ) → items ≡ t ∷ (u ∷ (v ∷ [])) → ((spread : Spread) × IsSpread Form spread items)
-    → MayStand t × (MayStand u × (MayStand v × AreInOrder t u))
-spread_shown items t u v e h =
-    let f = h.1.items_are in
-    let low : h.1.text_low ≡ t = cc in
-    let high : h.1.text_high ≡ u = cc in
-    let len : h.1.text_len ≡ v = cc in (
-      subst MayStand low h.1.number_low,
-      (
-        subst MayStand high h.1.number_high,
-        (
-          subst MayStand len h.1.number_len,
-          (λ a b p q. h.1.order a b (subst (λ (w : List ℕ). IsNumber w a) (sym low) p) (subst (λ (w : List ℕ). IsNumber w b) (sym high) q)),
-        ),
-      ),
-    )
-
-pub spread_is : (items : List (List ℕ)) (t u v : List ℕ) (spread : Spread) → items ≡ t ∷ (u ∷ (v ∷ [])) → IsSpread Numbers spread items
-    → IsNumber t spread.low × (IsNumber u spread.high × IsNumber v spread.len)
-spread_is items t u v spread e h =
-    let f = h.items_are in
-    let low : h.text_low ≡ t = cc in
-    let high : h.text_high ≡ u = cc in
-    let len : h.text_len ≡ v = cc in (
-      subst (λ (w : List ℕ). IsNumber w spread.low) low h.number_low,
-      (subst (λ (w : List ℕ). IsNumber w spread.high) high h.number_high, subst (λ (w : List ℕ). IsNumber w spread.len) len h.number_len),
-    )
 
 -- any numbers for texts that may stand for some
 pub any_numbers : (ts : List (List ℕ)) → HaveNoColon ts → AllZip (IsNumberAt Form) ts (map (λ t. pos 0) ts)
@@ -144,12 +108,6 @@ all_taken [] zero l = refl
 all_taken [] (suc i) l = refl
 all_taken (t ∷ ts) zero l = absurd (omega arith)
 all_taken (t ∷ ts) (suc i) l = ap (λ (us : List (Bor (List ℕ))). t ∷ us) (all_taken ts i (omega arith))
-
-pub spread_free : (items : List (List ℕ)) (t u v : List ℕ) → items ≡ t ∷ (u ∷ (v ∷ [])) → HaveNoColon items → MayStand t × (MayStand u × MayStand v)
-spread_free items t u v e h = let k = rw e at h in (k.0, (k.1.0, k.1.1.0))
-
-pub free_spread : (items : List (List ℕ)) (t u v : List ℕ) → items ≡ t ∷ (u ∷ (v ∷ [])) → MayStand t → MayStand u → MayStand v → HaveNoColon items
-free_spread items t u v e h k l = rw e (h, (k, (l, tt)))
 
 -- lists of texts and numbers, an item at a time
 pub numbers_more : (ts : List (Bor (List ℕ))) (zs : List ℤ) (i : ℕ) (z : ℤ) → i < length ts → AllZip (IsNumberAt Numbers) (texts (take i ts)) zs → IsNumber (get_or ts i no_text).now z

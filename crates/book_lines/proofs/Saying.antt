@@ -8,11 +8,12 @@ use Rattle.book_lines.specs.declared.keyword.Keyword.{Keyword}
 use Rattle.book_lines.specs.declared.statement.Statement.{Statement}
 use Rattle.text_lines.specs.Blanks.{words}
 use Rattle.book_lines.specs.Values.{Level}
-use Rattle.book_lines.specs.Statements.{spelling, keyword, ItemsState, StatesAt, States}
+use Rattle.book_lines.specs.Words.{spelling}
+use Rattle.book_lines.specs.WordLaws.{one_keyword}
+use Rattle.book_lines.specs.Statements.{keyword, ItemsState, StatesAt, States}
 use Rattle.book_lines.specs.Faults.{IsFaultOf, HasKeyword, IsLineFault}
 use Rattle.book_lines.specs.Cuts.{StatesAs, IsLineError}
 use Rattle.book_lines.specs.Reads.{ReadsOrErrs}
-use Rattle.book_lines.proofs.Keys.{one_keyword}
 use Rattle.book_lines.proofs.Lifting.{lift_fault}
 
 line_up : (line word : List ℕ) (items : List (List ℕ)) (k : Keyword) → words line ≡ word ∷ items → word ≡ spelling k → (l : Level) (s : Statement) → StatesAs k items l s → StatesAt l line s

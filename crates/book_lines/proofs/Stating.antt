@@ -23,9 +23,6 @@ use Rattle.book_lines.proofs.Cutting.{cut_once, turn_parts, turn_formed, ending_
 numbers_whole : NumbersPass Numbers Whole
 numbers_whole text z h = h
 
-same_form : NumbersPass Form Form
-same_form text z h = h
-
 -- ---- turns
 
 pub turn_stated : (items : List (List ℕ)) (name kind : List ℕ) (ending delays : List (List ℕ)) → IsTurnCut items name kind ending delays

@@ -4,26 +4,11 @@ use Rattle.std.specs.List.{AllZip}
 use Rattle.std.specs.Str.{all_ascii_digits}
 use Rattle.std.proofs.lemmas.Bool.{false≢true}
 use lib.Signed.{le_z}
+use Rattle.book_lines.specs.NumberLaws.{one_number}
 use Rattle.book_lines.specs.Values.{IsNumber, IsNumberAt}
 use Rattle.book_lines.specs.Values.Level.{Numbers}
 use Rattle.book_lines.specs.Forms.{AreInOrder}
 use Rattle.life_plane.specs.NumberLaws.{le_from_test, test_from_le}
-
--- digits begin with no '-'
-no_minus : (digits : List ℕ) → all_ascii_digits (45 ∷ digits) ≡ true → ⊥
-no_minus digits h = false≢true h
-
--- a text spells one number at most
-pub one_number : (text : List ℕ) (z w : ℤ) → IsNumber text z → IsNumber text w → z ≡ w
-one_number text z w (inl a) (inl b) = let e : a.0 ≡ b.0 = sym a.1.0.is ∙ b.1.0.is in a.1.1 ∙ ap pos e ∙ sym b.1.1
-one_number text z w (inl a) (inr b) = absurd (no_minus b.0 (subst (λ (t : List ℕ). all_ascii_digits t ≡ true) b.1.1.0 a.1.0.digits.digits))
-one_number text z w (inr a) (inl b) = absurd (no_minus a.0 (subst (λ (t : List ℕ). all_ascii_digits t ≡ true) a.1.1.0 b.1.0.digits.digits))
-one_number text z w (inr a) (inr b) =
-    let same : a.0 ≡ b.0 = cc (a.1.1.0, b.1.1.0) in
-    let spelled = a.1.1.1.0.is in
-    let spelled_too = b.1.1.1.0.is in
-    let e : a.1.0 ≡ b.1.0 = cc in
-    a.1.1.1.1 ∙ ap (λ (n : ℕ). neg_ℤ (pos n)) e ∙ sym b.1.1.1.1
 
 pub one_list : (ts : List (List ℕ)) (zs ws : List ℤ) → AllZip (IsNumberAt Numbers) ts zs → AllZip (IsNumberAt Numbers) ts ws → zs ≡ ws
 one_list [] [] [] h k = cc

@@ -1,9 +1,10 @@
 -- What a line counts up: cells, delays, lanes.
-use Rattle.std.specs.Prelude.{ℕ, ◌<◌, ◌≤◌, ◌^◌, length, Option}
+use Rattle.std.specs.Prelude.{◌≡◌, ℕ, ◌<◌, ◌≤◌, ◌^◌, length, Option}
 use Rattle.std.specs.declared.option.Option.TheVariants.{Some, None}
 use Rattle.book_lines.specs.declared.statement.Placed.{Placed}
 use Rattle.book_lines.specs.declared.statement.Statement.{Statement}
-use Rattle.book_lines.specs.declared.statement.Statement.TheVariants.{Hand, Elbow, Turn, Salvo}
+use Rattle.book_lines.specs.declared.statement.Statement.TheVariants.{Setting, Hand, Elbow, Turn, Salvo}
+use Rattle.book_lines.specs.Limits.{limits}
 use Rattle.book_lines.specs.Values.{body_count}
 
 abbrev pub delay_count : Statement → ℕ
@@ -30,3 +31,8 @@ pub record HasSmallCounts (s : Statement) : Type 0 where
   pub cells : cell_count s ≤ 2 ^ 61
   pub delays : delay_count s < 2 ^ 63
   pub lanes : lane_count s < 2 ^ 63
+
+-- a setting has a number, and as many as it has limits
+abbrev pub HasItsNumbers : Statement → Type 0
+HasItsNumbers (Setting setting) = (0 < length setting.numbers) × (length setting.numbers ≡ length (limits setting.word))
+HasItsNumbers other = Unit {0}

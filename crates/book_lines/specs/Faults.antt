@@ -7,7 +7,8 @@ use Rattle.book_lines.specs.declared.statement.Statement.{Statement}
 use Rattle.text_lines.specs.Blanks.{words}
 use Rattle.book_lines.specs.Values.{Level}
 use Rattle.book_lines.specs.Values.Level.{Form, Numbers, Bodies, Whole}
-use Rattle.book_lines.specs.Statements.{spelling, StatesAt}
+use Rattle.book_lines.specs.Words.{spelling}
+use Rattle.book_lines.specs.Statements.{StatesAt}
 
 -- something is stated as far as the one level looks, and nothing as far as the next
 pub record StopsBetween {V : Type 0} (States : Level → V → Type 0) (level next : Level) : Type 0 where

@@ -1,5 +1,5 @@
 -- The forms of lines: what their items, the words behind the first, are.
-use Rattle.std.specs.Prelude.{◌≡◌, ℕ, ℤ, pos, ◌≤ℤ◌, List, [], ◌∷◌, ◌++◌, codes}
+use Rattle.std.specs.Prelude.{◌≡◌, ℕ, ℤ, pos, ◌≤ℤ◌, List, [], ◌∷◌, ◌++◌, length, codes}
 use Rattle.std.specs.Prelude.{Option}
 use Rattle.std.specs.declared.option.Option.TheVariants.{Some, None}
 use Rattle.life_cells.specs.Cells.{cell}
@@ -7,12 +7,13 @@ use Rattle.life_cells.specs.declared.cell.Cell.{Cell}
 use Rattle.book_parts.specs.Limits.{IsName}
 use Rattle.book_lines.specs.declared.statement.Body.{Body}
 use Rattle.book_lines.specs.declared.statement.Placed.{Placed}
-use Rattle.book_lines.specs.declared.statement.Spread.{Spread}
+use Rattle.book_lines.specs.declared.statement.SettingLine.{SettingLine}
 use Rattle.book_lines.specs.declared.statement.Leaves.{Leaves}
 use Rattle.book_lines.specs.declared.statement.Leaves.TheVariants.{Close, Move, Emit}
 use Rattle.book_lines.specs.declared.statement.ElbowLine.{ElbowLine}
 use Rattle.book_lines.specs.declared.statement.TurnLine.{TurnLine}
 use Rattle.book_lines.specs.declared.statement.SalvoLine.{SalvoLine}
+use Rattle.book_lines.specs.Limits.{limits}
 use Rattle.book_lines.specs.Values.{Level, IsNumber, IsNumberAt, AreNumbersAt, IsBodyAt}
 
 -- one number
@@ -33,16 +34,16 @@ pub record IsPair (level : Level) (c : Cell) (items : List (List ℕ)) : Type 0 
 abbrev pub AreInOrder : List ℕ → List ℕ → Type 0
 AreInOrder text_low text_high = (low high : ℤ) → IsNumber text_low low → IsNumber text_high high → low ≤ℤ high
 
--- `LOW HIGH LEN`; LOW doesn't pass HIGH, where both are numbers
-pub record IsSpread (level : Level) (spread : Spread) (items : List (List ℕ)) : Type 0 where
-  pub text_low : List ℕ
-  pub text_high : List ℕ
-  pub text_len : List ℕ
-  pub items_are : items ≡ text_low ∷ (text_high ∷ (text_len ∷ []))
-  pub number_low : IsNumberAt level text_low spread.low
-  pub number_high : IsNumberAt level text_high spread.high
-  pub number_len : IsNumberAt level text_len spread.len
-  pub order : AreInOrder text_low text_high
+-- LOW doesn't pass HIGH, where there are three items, which then are `LOW HIGH LEN`
+abbrev pub KeepsOrder : List (List ℕ) → Type 0
+KeepsOrder (low ∷ (high ∷ (len ∷ []))) = AreInOrder low high
+KeepsOrder other = Unit {0}
+
+-- the numbers of a setting: as many as it has limits
+pub record IsSettingLine (level : Level) (setting : SettingLine) (items : List (List ℕ)) : Type 0 where
+  pub numbers_are : AreNumbersAt level items setting.numbers
+  pub count : length items ≡ length (limits setting.word)
+  pub order : KeepsOrder items
 
 -- `BODY`, its first item at (0,0)
 pub record IsBody (level : Level) (body : Body) (items : List (List ℕ)) : Type 0 where

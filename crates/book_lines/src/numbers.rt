@@ -2,15 +2,13 @@
 
 ghost use Rattle.std.specs.Prelude.{◌≡◌, ◌≢◌, ◌<◌, ℤ, List, ◌↔◌, length, codes, IsTrue, IfOk, IfSome, ◌^◌};
 ghost use Rattle.life_cells.specs.declared.cell.Cell.{Cell};
-ghost use Rattle.book_lines.specs.declared.statement.Spread.{Spread};
 ghost use Rattle.book_lines.specs.Lines.{texts};
 ghost use Rattle.book_lines.specs.Values.{Level, IsNumber, IsSmall, AreNumbersAt};
-ghost use Rattle.book_lines.specs.Forms.{IsOneNumber, IsPair, IsSpread, AreInOrder};
+ghost use Rattle.book_lines.specs.Forms.{IsOneNumber, IsPair};
 ghost use Rattle.book_lines.specs.Reads.{Reads};
 
-use crate::items::{have_no_colon, may_stand, only, three, two};
+use crate::items::{have_no_colon, may_stand, only, two};
 use crate::number::number;
-use crate::statement::Spread;
 use book_parts::Numbers;
 use life_cells::{Cell, NoMemory};
 use std::alloc::Global;
@@ -65,41 +63,6 @@ pub fn two_numbers(first: &[u8], second: &[u8]) -> Option<(i64, i64)>
     ensures small { IfSome result (λ p. IsSmall p.0 × IsSmall p.1) }
 {
     Some((number(first)?, number(second)?))
-}
-
-/// Whether these items have the form `LOW HIGH LEN`, where LOW does not pass HIGH if both are numbers.
-pub fn is_spread(items: &[&[u8]]) -> bool
-    ensures { IsTrue result ↔ ((spread : Spread) × IsSpread Level.Form spread (texts items.now)) }
-{
-    match three(items) {
-        Some((low, high, _)) => have_no_colon(items) && are_in_order(low, high),
-        None => false,
-    }
-}
-
-/// Whether LOW does not pass HIGH, where both are numbers.
-fn are_in_order(low: &[u8], high: &[u8]) -> bool
-    ensures { IsTrue result ↔ AreInOrder low.now high.now }
-{
-    match number(low) {
-        Some(low) => match number(high) {
-            Some(high) => low <= high,
-            None => true,
-        },
-        None => true,
-    }
-}
-
-/// The numbers that `LOW HIGH LEN` are.
-pub fn spread(items: &[&[u8]]) -> Option<Spread>
-    requires { (spread : Spread) × IsSpread Level.Form spread (texts items.now) }
-    ensures { Reads (λ spread. IsSpread Level.Numbers spread (texts items.now)) result }
-{
-    let (low, high, len) = three(items)?;
-    let low = number(low)?;
-    let high = number(high)?;
-    let len = number(len)?;
-    Some(Spread { low, high, len })
 }
 
 /// Whether these items have the form of one number or more.

@@ -1,5 +1,6 @@
 //! What a line of a book states, its numbers however large. x goes right and y goes down.
 
+use crate::book_word::BookWord;
 use book_parts::{Name, Numbers};
 use life_cells::{Cell, CellSet};
 
@@ -21,15 +22,13 @@ pub struct Placed {
     pub body: Body,
 }
 
-/// Numbers from LOW to HIGH, and the length LEN of their lists.
-#[derive(Clone, Copy, Debug, PartialEq, Eq)]
-pub struct Spread {
-    /// LOW
-    pub low: i64,
-    /// HIGH
-    pub high: i64,
-    /// LEN
-    pub len: i64,
+/// What a setting's line states.
+#[derive(Drop)]
+pub struct SettingLine {
+    /// The setting's word.
+    pub word: BookWord,
+    /// Its numbers, as many as it has limits.
+    pub numbers: Numbers,
 }
 
 /// What a turn leaves, its kind by name.
@@ -97,22 +96,8 @@ pub struct SalvoLine {
 /// What a line of a book states.
 #[derive(Drop)]
 pub enum Statement {
-    /// `approach A`
-    Approach(i64),
-    /// `wall W`
-    Wall(i64),
-    /// `reach R`
-    Reach(i64),
-    /// `corner X Y`
-    Corner(Cell),
-    /// `room R`
-    Room(i64),
-    /// `span S`
-    Span(i64),
-    /// `lanes LOW HIGH LEN`
-    Lanes(Spread),
-    /// `delays LOW HIGH LEN`
-    Delays(Spread),
+    /// `WORD N ..`: the numbers of a setting
+    Setting(SettingLine),
     /// `hand BODY`
     Hand(Body),
     /// `elbow NAME X Y BODY`

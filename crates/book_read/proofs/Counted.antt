@@ -9,7 +9,7 @@ use Rattle.book_lines.specs.declared.statement.Placed.{Placed}
 use Rattle.book_lines.specs.declared.statement.Statement.{Statement}
 use Rattle.book_lines.specs.Values.{body_count}
 use Rattle.book_lines.specs.Counts.{delay_count, lane_count, cell_count, product_count}
-use Rattle.book_read.specs.declared.limit.Limit.TheVariants.{Count}
+use Rattle.book_lines.specs.declared.limit.Limit.TheVariants.{Count}
 use Rattle.book_read.specs.Stated.{Stated, cells_of, product_of, joined}
 use Rattle.book_read.specs.Limited.{Limited, held, numbers, counts, stated_cells, IsFirstOutside, IsOver}
 use Rattle.book_parts.specs.declared.limits.TheConstants.{MOST_CELLS, MOST_DELAYS, MOST_KINDS, MOST_LANES, MOST_SALVOS, MOST_TURNS}

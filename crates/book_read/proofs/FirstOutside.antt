@@ -1,7 +1,9 @@
 -- The first number outside its limits, among the numbers of lists.
-use Rattle.std.proofs.Common.{◌≡◌, ℕ, ◌+◌, ◌<◌, ℤ, List, [], ◌∷◌, ◌++◌, length, take, get_or, map, flat_map, inl, inr, Option, Some, None, zero, suc, refl, sym, ap, subst, arith, add-one, true, false, is_some}
-use Rattle.book_read.specs.declared.limit.Limit.{Limit}
+use Rattle.std.proofs.Common.{◌≡◌, ℕ, ◌+◌, ◌<◌, ℤ, List, [], ◌∷◌, ◌++◌, length, take, get_or, map, flat_map, ◌⊎◌, inl, inr, Option, Some, None, zero, suc, refl, sym, ap, subst, arith, add-one, true, false, is_some}
+use Rattle.book_lines.specs.declared.limit.Limit.{Limit}
 use Rattle.std.specs.Option.{option_or}
+use Rattle.std.specs.List.{zip}
+use Rattle.book_lines.specs.Limits.{IsWithin}
 use Rattle.book_read.specs.Limited.{Limited, held, IsFirstOutside}
 
 pub first_append : (ns ms : List Limited) (a b : Option ℤ) → IsFirstOutside ns a → IsFirstOutside ms b → IsFirstOutside (ns ++ ms) (option_or a b)
@@ -57,3 +59,23 @@ none_is ns (Some z) e h = absurd (cc e)
 pub one_each : (limit : Limit) (zs : List ℤ) → flat_map (λ z. held limit z ∷ []) zs ≡ map (held limit) zs
 one_each limit [] = refl
 one_each limit (z ∷ zs) = ap (λ (ns : List Limited). held limit z ∷ ns) (one_each limit zs)
+
+-- ---- numbers, each with a limit of its own
+
+abbrev pub held_each : List Limit → List ℤ → List Limited
+held_each ls zs = map (λ (p : Limit × ℤ). held p.0 p.1) (zip ls zs)
+
+pub each_same : (ls ms : List Limit) (zs ys : List ℤ) (found : Option ℤ) → ls ≡ ms → zs ≡ ys → IsFirstOutside (held_each ls zs) found → IsFirstOutside (held_each ms ys) found
+each_same ls ms zs ys found e f h = subst (λ (xs : List Limit). IsFirstOutside (held_each xs ys) found) e (subst (λ (xs : List ℤ). IsFirstOutside (held_each ls xs) found) f h)
+
+pub each_within : (ls more : List Limit) (zs rest : List ℤ) (l : Limit) (z : ℤ) (found : Option ℤ) → ls ≡ l ∷ more → zs ≡ z ∷ rest → IsWithin l z → IsFirstOutside (held_each more rest) found → IsFirstOutside (held_each ls zs) found
+each_within ls more zs rest l z found e f within h = rw (e, f) (inl (within, h))
+
+pub each_outside : (ls more : List Limit) (zs rest : List ℤ) (l : Limit) (z : ℤ) → ls ≡ l ∷ more → zs ≡ z ∷ rest → (IsWithin l z → ⊥) → IsFirstOutside (held_each ls zs) (Some z)
+each_outside ls more zs rest l z e f outside = rw (e, f) (inr (outside, refl))
+
+pub each_none : (ls : List Limit) (zs : List ℤ) → (ls ≡ []) ⊎ (zs ≡ []) → IsFirstOutside (held_each ls zs) None
+each_none [] zs h = refl
+each_none (l ∷ ls) [] h = refl
+each_none (l ∷ ls) (z ∷ zs) (inl e) = absurd (cc e)
+each_none (l ∷ ls) (z ∷ zs) (inr e) = absurd (cc e)

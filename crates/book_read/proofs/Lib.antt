@@ -1,5 +1,4 @@
 pub mod FirstOutside
-pub mod Quarters
 pub mod Wholly
 pub mod Refusing
 pub mod Searches
@@ -11,3 +10,4 @@ pub mod LineLaws
 pub mod OneBook
 pub mod NoRefusal
 pub mod OneRefusal
+pub mod Settings

@@ -8,12 +8,13 @@ use Rattle.book_lines.specs.declared.fault.LineFault.TheVariants as fault
 use Rattle.book_lines.specs.declared.statement.Statement.{Statement}
 use Rattle.book_read.specs.declared.error.BookError.{BookError}
 use Rattle.book_read.specs.declared.error.BookError.TheVariants.{BadLine, Doubled, UnknownKind, LimitOver, Missing, WallReach, Memory}
-use Rattle.book_read.specs.declared.error.BookWord.{BookWord}
-use Rattle.book_read.specs.declared.error.BookWord.TheVariants as word
+use Rattle.book_lines.specs.declared.book_word.TheConstants.{BOOK_WORDS}
+use Rattle.book_lines.specs.declared.book_word.BookWord.{BookWord}
+use Rattle.book_lines.specs.declared.book_word.BookWord.TheVariants as word
 use Rattle.book_read.specs.Stated.{Stated, nothing_stated, joined}
 use Rattle.book_read.specs.Limited.{Limited, numbers, counts, IsFirstOutside}
 use Rattle.book_read.specs.Joining.{IsNew, KnowsKinds, IsFine}
-use Rattle.book_read.specs.Reading.{AreFine, IsRefused, IsVersion, IsBegun, HasNoVersion, IsRefusedAmong, IsMissing, IsFirstMissing, book_words}
+use Rattle.book_read.specs.Reading.{AreFine, IsRefused, IsVersion, IsBegun, HasNoVersion, IsRefusedAmong, IsMissing, IsFirstMissing}
 use Rattle.book_read.specs.Book.{Said, whole, Says, StopsInLine, StopsWith}
 use Rattle.book_read.proofs.LineLaws.{LineLaws}
 use Rattle.book_read.proofs.OneBook.{heads_once, begun_once, fine_once, read_once, whole_once, version_other}
@@ -72,17 +73,8 @@ version_there ls n m body b (inr h) =
 -- ---- nothing is missing
 
 none_missing : (said : Said) → said.kinds ≢ [] → (w : BookWord) → IsMissing (whole said) w → ⊥
-none_missing said some word.Approach h = absurd (cc h)
-none_missing said some word.Wall h = absurd (cc h)
-none_missing said some word.Reach h = absurd (cc h)
-none_missing said some word.Corner h = absurd (cc h)
-none_missing said some word.Room h = absurd (cc h)
-none_missing said some word.Span h = absurd (cc h)
-none_missing said some word.Lanes h = absurd (cc h)
-none_missing said some word.Delays h = absurd (cc h)
-none_missing said some word.Hand h = absurd (cc h)
 none_missing said some word.Elbow h = some h
-none_missing said some word.Start h = absurd (cc h)
+none_missing said some other h = absurd (cc h)
 
 pub none_first : (said : Said) → said.kinds ≢ [] → (ws : List BookWord) (w : BookWord) → IsFirstMissing (whole said) ws w → ⊥
 none_first said some [] w h = h
@@ -107,7 +99,7 @@ no_refusal laws text said (UnknownKind line) says far h = absurd (in_line laws t
 no_refusal laws text said (LimitOver line z) says far h = absurd (in_line laws text said _ says h)
 no_refusal laws text said (Missing w) says far h =
     let same = read_once laws (lines text) h.0 (whole said) h.1.0 says.read in
-    absurd (none_first said says.some_kind book_words w (subst (λ (s : Stated). IsFirstMissing s book_words w) same h.1.1))
+    absurd (none_first said says.some_kind BOOK_WORDS w (subst (λ (s : Stated). IsFirstMissing s BOOK_WORDS w) same h.1.1))
 no_refusal laws text said (WallReach wall reach) says far h =
     let same = whole_once h.0 said (read_once laws (lines text) (whole h.0) (whole said) h.1.0.read says.read) in
     let w = sym (ap (λ (s : Said). s.settings.wall) same) ∙ h.1.1.0 in

@@ -11,6 +11,7 @@ use Rattle.book_read.specs.Reading.{AreFine, IsVersion, IsBegun}
 use Rattle.book_read.specs.Book.{Said, whole, AreRead, Says}
 use Rattle.text_lines.specs.LineLaws.{split_some}
 use Rattle.book_read.proofs.LineLaws.{LineLaws}
+use Rattle.book_read.proofs.Settings.{settings_once}
 use Rattle.std.proofs.lemmas.Option.{same_Some}
 
 -- ---- the version's line isn't passed over
@@ -83,18 +84,11 @@ read_once laws ls a b h k =
 -- a book is known by what is stated
 pub whole_once : (a b : Said) → whole a ≡ whole b → a ≡ b
 whole_once a b e =
-    let approach = same_Some a.settings.approach b.settings.approach (ap (λ (s : Stated). s.approach) e) in
-    let wall = same_Some a.settings.wall b.settings.wall (ap (λ (s : Stated). s.wall) e) in
-    let reach = same_Some a.settings.reach b.settings.reach (ap (λ (s : Stated). s.reach) e) in
-    let corner = same_Some a.settings.corner b.settings.corner (ap (λ (s : Stated). s.corner) e) in
-    let room = same_Some a.settings.room b.settings.room (ap (λ (s : Stated). s.room) e) in
-    let span = same_Some a.settings.span b.settings.span (ap (λ (s : Stated). s.span) e) in
-    let lanes = same_Some a.settings.lanes b.settings.lanes (ap (λ (s : Stated). s.lanes) e) in
-    let delays = same_Some a.settings.delays b.settings.delays (ap (λ (s : Stated). s.delays) e) in
+    let settings = settings_once a.settings b.settings (ap (λ (s : Stated). s.settings) e) in
     let hand = same_Some a.hand b.hand (ap (λ (s : Stated). s.hand) e) in
     let start = same_Some a.start b.start (ap (λ (s : Stated). s.start) e) in
     λ i. record {
-      settings = record { approach = approach i; wall = wall i; reach = reach i; corner = corner i; room = room i; span = span i; lanes = lanes i; delays = delays i };
+      settings = settings i;
       hand = hand i;
       kinds = (ap (λ (s : Stated). s.kinds) e) i;
       start = start i;

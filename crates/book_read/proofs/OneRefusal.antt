@@ -8,11 +8,12 @@ use Rattle.book_lines.specs.declared.statement.Statement.{Statement}
 use Rattle.book_lines.specs.Statements.{States}
 use Rattle.book_read.specs.declared.error.BookError.{BookError}
 use Rattle.book_read.specs.declared.error.BookError.TheVariants.{BadLine, Doubled, UnknownKind, LimitOver, Missing, WallReach, Memory}
-use Rattle.book_read.specs.declared.error.BookWord.{BookWord}
+use Rattle.book_lines.specs.declared.book_word.TheConstants.{BOOK_WORDS}
+use Rattle.book_lines.specs.declared.book_word.BookWord.{BookWord}
 use Rattle.book_read.specs.Stated.{Stated, nothing_stated}
 use Rattle.book_read.specs.Limited.{Limited, numbers, counts, IsFirstOutside}
 use Rattle.book_read.specs.Joining.{IsNew, KnowsKinds}
-use Rattle.book_read.specs.Reading.{AreFine, IsRefused, HasNoVersion, IsRefusedAmong, IsFirstMissing, book_words}
+use Rattle.book_read.specs.Reading.{AreFine, IsRefused, HasNoVersion, IsRefusedAmong, IsFirstMissing}
 use Rattle.book_read.specs.Book.{Said, whole, AreRead, StopsInLine, StopsWith}
 use Rattle.book_read.specs.Drafted.{IsUnfinished}
 use Rattle.book_read.proofs.LineLaws.{LineLaws}
@@ -123,11 +124,11 @@ missing_once stated (x ∷ ws) v w (inl h) (inr k) = absurd (k.0 h.0)
 missing_once stated (x ∷ ws) v w (inr h) (inl k) = absurd (h.0 k.0)
 missing_once stated (x ∷ ws) v w (inr h) (inr k) = missing_once stated ws v w h.1 k.1
 
-missing_or : (stated : Stated) (w : BookWord) (said : Said) → stated ≡ whole said → said.kinds ≢ [] → IsFirstMissing stated book_words w → ⊥
-missing_or stated w said e some h = none_first said some book_words w (subst (λ (s : Stated). IsFirstMissing s book_words w) e h)
+missing_or : (stated : Stated) (w : BookWord) (said : Said) → stated ≡ whole said → said.kinds ≢ [] → IsFirstMissing stated BOOK_WORDS w → ⊥
+missing_or stated w said e some h = none_first said some BOOK_WORDS w (subst (λ (s : Stated). IsFirstMissing s BOOK_WORDS w) e h)
 
 unfinished_once : (stated : Stated) (e f : BookError) → IsUnfinished stated e → IsUnfinished stated f → e ≡ f
-unfinished_once stated (Missing v) (Missing w) h k = ap Missing (missing_once stated book_words v w h k)
+unfinished_once stated (Missing v) (Missing w) h k = ap Missing (missing_once stated BOOK_WORDS v w h k)
 unfinished_once stated (Missing v) (WallReach c d) h k = absurd (missing_or stated v k.0 k.1.0 k.1.1.0 h)
 unfinished_once stated (WallReach a b) (Missing w) h k = absurd (missing_or stated w h.0 h.1.0 h.1.1.0 k)
 unfinished_once stated (WallReach a b) (WallReach c d) h k =

@@ -1,14 +1,13 @@
 -- What lines are refused for.
-use Rattle.std.proofs.Common.{◌≡◌, ℕ, ◌+◌, List, [], ◌∷◌, ◌++◌, length, inl, inr, refl, sym, ap, ◌∙◌, subst, arith, append_assoc, codes, true, Result, Ok, Err, IfErr, IsErrAnd, false, ◌==◌, ◌<◌}
+use Rattle.std.proofs.Common.{◌≡◌, ℕ, ◌+◌, List, [], ◌∷◌, ◌++◌, length, inl, inr, refl, sym, ap, ◌∙◌, subst, arith, append_assoc, codes, true, Result, Ok, Err, IfErr, IsErrAnd, ◌==◌}
 use Rattle.std.specs.List.{AllByRecursion}
 use Rattle.std.proofs.lemmas.List.{length-append}
 use Rattle.book_lines.specs.declared.statement.Statement.{Statement}
 use Rattle.text_lines.specs.Blanks.{IsPassedOver}
-use Rattle.book_lines.specs.Statements.{States}
 use Rattle.book_read.specs.declared.error.BookError.{BookError}
 use Rattle.book_read.specs.declared.error.BookError.TheVariants.{BadLine, Doubled, UnknownKind, LimitOver, Missing, WallReach, Memory}
 use Rattle.book_read.specs.Stated.{Stated, nothing_stated, joined}
-use Rattle.book_read.specs.Joining.{IsNew, IsFine}
+use Rattle.book_read.specs.Joining.{IsFine}
 use Rattle.book_read.specs.Reading.{AreFine, IsRefused}
 use Rattle.std.specs.Str.Lines.{lines}
 use Rattle.std.proofs.lemmas.Bool.Decides.{nat_tests}
@@ -59,10 +58,6 @@ version_of words word number e f g = e ∙ (λ i. f i ∷ (g i ∷ []))
 pub version_is : (words : List (List ℕ)) (word number : List ℕ) → words ≡ word ∷ (number ∷ []) → words ≡ codes "scbook" ∷ (codes "1" ∷ []) → (word ≡ codes "scbook") × (number ≡ codes "1")
 version_is words word number e v = (cc, cc)
 
-pub some_left : (xs : List ℕ) → false ≡ (length xs == 0) → 0 < length xs
-some_left [] e = absurd (cc e)
-some_left (x ∷ xs) e = omega arith
-
 -- another first line is told with its number
 pub version_refused : (ls head : List (List ℕ)) (line : List ℕ) (more : List (List ℕ)) (number : ℕ) (e : BookError) → ls ≡ head ++ (line ∷ more) → AllByRecursion IsPassedOver head → (IsPassedOver line → ⊥)
     → number ≡ length head + 1 → IsOtherLine line number e → IsVersionRefusal ls e
@@ -89,7 +84,3 @@ no_lines (x ∷ xs) e = let n : length (x ∷ xs) ≡ 0 = grind (arith, nat_test
 pub fine_taken : (stated : Stated) (front : List (List ℕ)) (line : List ℕ) (after next : Stated) → AreFine stated front after → IsTaken after line next → AreFine stated (front ++ line ∷ []) next
 fine_taken stated front line after next h (inl t) = subst (λ (x : Stated). AreFine stated (front ++ line ∷ []) x) (sym t.1) (fine_over stated front line after h t.0)
 fine_taken stated front line after next h (inr t) = fine_next stated front line after next t.1.0 h t.0 t.1.1.0 t.1.1.1
-
--- what goes with a statement that is read
-pub line_doubled : (stated : Stated) (line : List ℕ) (number : ℕ) (s : Statement) → States line s → (IsNew stated s → ⊥) → IsLineRefusal stated line number (Doubled number)
-line_doubled stated line number s h new = (refl, (s, (h, new)))

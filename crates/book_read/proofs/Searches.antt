@@ -39,10 +39,6 @@ pub found_at : {V : Type 0} (vs : List V) (i : ℕ) (here : V) → i < length vs
 found_at vs i here l is = slice_get-get_or vs i here l ∙ ap Some (sym is)
 
 -- none of two lists
-pub none_of_both : (names others : List (List ℕ)) (name : List ℕ) → IsNoneOf names name → IsNoneOf others name → IsNoneOf (names ++ others) name
-none_of_both [] others name h k = k
-none_of_both (n ∷ names) others name h k = (h.0, none_of_both names others name h.1 k)
-
 pub none_of_front : (names others : List (List ℕ)) (name : List ℕ) → IsNoneOf (names ++ others) name → IsNoneOf names name
 none_of_front [] others name h = tt
 none_of_front (n ∷ names) others name h = (h.0, none_of_front names others name h.1)

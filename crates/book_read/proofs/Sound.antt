@@ -6,6 +6,7 @@ use Rattle.std.specs.Str.{bytes_eq}
 use Rattle.std.proofs.lemmas.Bool.{false≢true}
 use Rattle.std.proofs.lemmas.List.{append-nil, map-append}
 use Rattle.std.proofs.lemmas.List.Sums.{sum_by_push}
+use Rattle.life_plane.specs.ListLaws.{all_push}
 use Rattle.life_plane.specs.Plane.{Plane, shift}
 use Rattle.life_cells.specs.Cells.{cell, empty, in_order}
 use Rattle.life_cells.specs.Laws.{alive-empty, alive-in_order_at, place_of_listed}
@@ -25,9 +26,15 @@ use Rattle.book_lines.specs.declared.statement.Leaves.{Leaves}
 use Rattle.book_lines.specs.declared.statement.Leaves.TheVariants.{Close, Move, Emit}
 use Rattle.book_lines.specs.declared.statement.TurnLine.{TurnLine}
 use Rattle.book_lines.specs.declared.statement.SalvoLine.{SalvoLine}
+use Rattle.book_lines.specs.declared.book_word.BookWord.{BookWord}
+use Rattle.book_lines.specs.declared.book_word.BookWord.TheVariants as word
+use Rattle.book_lines.specs.Limits.{IsWithin}
+use Rattle.book_lines.specs.Forms.{KeepsOrder}
+use Rattle.book_read.specs.Drafted.{AreNumbersOf}
+use Rattle.book_read.proofs.Settings.{of_update, setting_within, its_numbers}
 use Rattle.book_lines.specs.Values.{Level, IsNumberAt, IsBodyAt, body_count}
 use Rattle.book_lines.specs.Counts.{cell_count}
-use Rattle.book_read.specs.declared.limit.Limit.{Limit}
+use Rattle.book_lines.specs.declared.limit.Limit.{Limit}
 use Rattle.book_read.specs.Names.{number_from, number_of, known_number}
 use Rattle.book_read.specs.Stated.{cells_of, kind_of, end_of, turn_of, product_of, salvo_of}
 use Rattle.book_read.specs.Limited.{cell_numbers, body_numbers, leaves_numbers, product_numbers, place_numbers, stated_cells, hand_count}
@@ -39,18 +46,18 @@ use Rattle.std.proofs.lemmas.Int.{ints}
 use Rattle.std.proofs.lemmas.List.{length-append}
 use Rattle.life_cells.specs.Cells.{Cells, alive}
 use Rattle.life_cells.specs.declared.cell.Cell.{Cell}
-use Rattle.book_parts.specs.Limits.{IsFrom, IsApproach, IsCoordinate, AreLanes, AreGaps}
-use Rattle.book_parts.specs.declared.settings.Range.{Range}
+use Rattle.book_parts.specs.Limits.{IsFrom, IsCoordinate, AreProper}
+use Rattle.book_parts.specs.declared.settings.Settings.{Settings}
 use Rattle.book_lines.specs.declared.statement.Statement.{Statement}
-use Rattle.book_lines.specs.declared.statement.Statement.TheVariants.{Approach, Wall, Reach, Corner, Room, Span, Lanes, Delays, Hand, Elbow, Start, Turn, Salvo}
+use Rattle.book_lines.specs.declared.statement.Statement.TheVariants.{Setting, Hand, Elbow, Start, Turn, Salvo}
 use Rattle.book_lines.specs.Statements.{States}
-use Rattle.book_read.specs.Stated.{Stated, joined, nothing_stated}
-use Rattle.book_read.specs.Limited.{Limited, IsWithin, held, numbers, counts, IsFirstOutside, IsOver}
-use Rattle.book_read.specs.declared.limit.Limit.TheVariants as limit
+use Rattle.book_read.specs.Stated.{Stated, joined, nothing_stated, coordinates, range_numbers, setting_numbers}
+use Rattle.book_read.specs.Limited.{Limited, held, setting_limited, numbers, counts, IsFirstOutside, IsOver}
+use Rattle.book_lines.specs.declared.limit.Limit.TheVariants as limit
 use Rattle.book_read.specs.Joining.{IsFine}
 use Rattle.book_read.specs.Reading.{AreFine}
 use Rattle.book_read.proofs.Counted.{front_none}
-use Rattle.book_parts.specs.declared.limits.TheConstants.{GREATEST_REACH, GREATEST_ROOM, GREATEST_SPAN, GREATEST_WALL, LONGEST_TURN, MOST_CELLS, MOST_GAPS, MOST_KINDS, MOST_LANES, MOST_SALVOS, MOST_TURNS, WALL_MARGIN}
+use Rattle.book_parts.specs.declared.limits.TheConstants.{LONGEST_TURN, MOST_CELLS, MOST_GAPS, MOST_KINDS, MOST_LANES, MOST_SALVOS, MOST_TURNS, WALL_MARGIN}
 
 -- the first of numbers within their limits is within its
 pub first_within : (n : Limited) (ns : List Limited) → IsFirstOutside (n ∷ ns) None → IsWithin n.limit n.number × IsFirstOutside ns None
@@ -59,95 +66,77 @@ first_within n ns (inr h) = absurd (cc h.1)
 
 -- ---- the settings
 
--- each setting that is stated is within its limits
-pub record AreSettings (stated : Stated) : Type 0 where
-  pub approach : IfSome stated.approach IsApproach
-  pub wall : IfSome stated.wall (λ z. IsFrom (pos 1) GREATEST_WALL z)
-  pub reach : IfSome stated.reach (λ z. IsFrom (pos 1) GREATEST_REACH z)
-  pub corner : IfSome stated.corner (λ (c : Cell). IsCoordinate c.x × IsCoordinate c.y)
-  pub room : IfSome stated.room (λ z. IsFrom (pos 0) GREATEST_ROOM z)
-  pub span : IfSome stated.span (λ z. IsFrom (pos 0) GREATEST_SPAN z)
-  pub lanes : IfSome stated.lanes AreLanes
-  pub delays : IfSome stated.delays AreGaps
+-- LOW doesn't pass HIGH, where there are three numbers
+abbrev pub IsOrdered : List ℤ → Type 0
+IsOrdered (low ∷ (high ∷ (len ∷ []))) = low ≤ℤ high
+IsOrdered other = Unit {0}
 
-pub no_settings : AreSettings nothing_stated
-no_settings = record { approach = tt; wall = tt; reach = tt; corner = tt; room = tt; span = tt; lanes = tt; delays = tt }
+-- the numbers of a setting are within its limits, and LOW doesn't pass HIGH
+pub record IsSetting (word : BookWord) (numbers : List ℤ) : Type 0 where
+  pub are : AreNumbersOf word numbers
+  pub order : IsOrdered numbers
 
-settings_same : (stated after : Stated) → AreSettings stated → after.approach ≡ stated.approach → after.wall ≡ stated.wall → after.reach ≡ stated.reach → after.corner ≡ stated.corner
-    → after.room ≡ stated.room → after.span ≡ stated.span → after.lanes ≡ stated.lanes → after.delays ≡ stated.delays → AreSettings after
-settings_same stated after h a b c d e f g k = record {
-  approach = subst (λ (o : Option ℤ). IfSome o IsApproach) (sym a) h.approach;
-  wall = subst (λ (o : Option ℤ). IfSome o (λ z. IsFrom (pos 1) GREATEST_WALL z)) (sym b) h.wall;
-  reach = subst (λ (o : Option ℤ). IfSome o (λ z. IsFrom (pos 1) GREATEST_REACH z)) (sym c) h.reach;
-  corner = subst (λ (o : Option Cell). IfSome o (λ (p : Cell). IsCoordinate p.x × IsCoordinate p.y)) (sym d) h.corner;
-  room = subst (λ (o : Option ℤ). IfSome o (λ z. IsFrom (pos 0) GREATEST_ROOM z)) (sym e) h.room;
-  span = subst (λ (o : Option ℤ). IfSome o (λ z. IsFrom (pos 0) GREATEST_SPAN z)) (sym f) h.span;
-  lanes = subst (λ (o : Option Range). IfSome o AreLanes) (sym g) h.lanes;
-  delays = subst (λ (o : Option Range). IfSome o AreGaps) (sym k) h.delays;
-}
+-- each setting that is stated is so
+abbrev pub AreSettings : Stated → Type 0
+AreSettings stated = (word : BookWord) (numbers : List ℤ) → stated.settings word ≡ Some numbers → IsSetting word numbers
 
--- a length within small limits
-some_length : (z : ℤ) (most : ℕ) → IsFrom (pos 1) (pos most) z → (1 ≤ nat_abs z) × (nat_abs z ≤ most)
-some_length (pos n) most h = let low = h.low in let high = h.high in (omega (arith, ints), omega (arith, ints))
-some_length (negsuc n) most h = let low = h.low in absurd (omega (arith, ints))
+no_settings : AreSettings nothing_stated
+no_settings word numbers e = absurd (cc e)
 
+kept_order : (ts : List (List ℕ)) (zs : List ℤ) → AllZip (IsNumberAt Level.Whole) ts zs → KeepsOrder ts → IsOrdered zs
+kept_order [] [] h k = tt
+kept_order [] (z ∷ zs) h k = absurd h
+kept_order (t ∷ ts) [] h k = absurd h
+kept_order (t ∷ []) (z ∷ []) h k = tt
+kept_order (t ∷ []) (z ∷ (y ∷ zs)) h k = absurd h.1
+kept_order (t ∷ (u ∷ ts)) (z ∷ []) h k = absurd h.1
+kept_order (t ∷ (u ∷ [])) (z ∷ (y ∷ [])) h k = tt
+kept_order (t ∷ (u ∷ [])) (z ∷ (y ∷ (x ∷ zs))) h k = absurd h.1.1
+kept_order (t ∷ (u ∷ (v ∷ ts))) (z ∷ (y ∷ [])) h k = absurd h.1.1
+kept_order (t ∷ (u ∷ (v ∷ []))) (z ∷ (y ∷ (x ∷ []))) h k = k z y h.0 h.1.0
+kept_order (t ∷ (u ∷ (v ∷ []))) (z ∷ (y ∷ (x ∷ (w ∷ zs)))) h k = absurd h.1.1.1
+kept_order (t ∷ (u ∷ (v ∷ (w ∷ ts)))) (z ∷ (y ∷ (x ∷ []))) h k = absurd h.1.1.1
+kept_order (t ∷ (u ∷ (v ∷ (w ∷ ts)))) (z ∷ (y ∷ (x ∷ (a ∷ zs)))) h k = tt
+
+settings_joined : (stated : Stated) (line : List ℕ) (s : Statement) → AreSettings stated → States line s → IsOver stated s None → AreSettings (joined stated s)
+settings_joined stated line (Setting v) h says over =
+    let is = says.items_are in
+    of_update stated.settings IsSetting v.word v.numbers h (record {
+      are = setting_within v (its_numbers line (Setting v) says) (front_none (setting_limited v) (counts stated (Setting v)) over);
+      order = kept_order says.items v.numbers is.numbers_are.each is.order;
+    })
+settings_joined stated line (Hand body) h says over = h
+settings_joined stated line (Elbow elbow) h says over = h
+settings_joined stated line (Start name) h says over = h
+settings_joined stated line (Turn turn) h says over = h
+settings_joined stated line (Salvo salvo) h says over = h
+
+length_of : (least most n : ℕ) → IsFrom (pos least) (pos most) (pos n) → (least ≤ n) × (n ≤ most)
+length_of least most n h = let low = h.low in let high = h.high in (omega (arith, ints), omega (arith, ints))
+
+proper_settings : (s : Settings) → ((word : BookWord) (numbers : List ℤ) → setting_numbers s word ≡ Some numbers → IsSetting word numbers) → (s.wall +ℤ WALL_MARGIN) ≤ℤ s.reach → AreProper s
+proper_settings s each far =
+    let corner = each word.Corner (coordinates s.corner) refl in
+    let lanes = each word.Lanes (range_numbers s.lanes) refl in
+    let most_lanes = length_of 1 MOST_LANES s.lanes.len lanes.are.each.1.1.0 in
+    let gaps = each word.Delays (range_numbers s.delays) refl in
+    let most_gaps = length_of 0 MOST_GAPS s.delays.len gaps.are.each.1.1.0 in
+    record {
+      approach = (each word.Approach (s.approach ∷ []) refl).are.each.0;
+      wall = (each word.Wall (s.wall ∷ []) refl).are.each.0;
+      reach = record { low = far; high = (each word.Reach (s.reach ∷ []) refl).are.each.0.high };
+      corner_x = corner.are.each.0;
+      corner_y = corner.are.each.1.0;
+      room = (each word.Room (s.room ∷ []) refl).are.each.0;
+      span = (each word.Span (s.span ∷ []) refl).are.each.0;
+      lanes = record { low = lanes.are.each.0; high = lanes.are.each.1.0; order = lanes.order; some = most_lanes.0; few = most_lanes.1 };
+      delays = record { low = gaps.are.each.0; order = gaps.order; high = gaps.are.each.1.0; few = most_gaps.1 };
+    }
+
+-- a time within small limits
 any_length : (z : ℤ) (most : ℕ) → IsFrom (pos 0) (pos most) z → nat_abs z ≤ most
 any_length (pos n) most h = let high = h.high in omega (arith, ints)
 any_length (negsuc n) most h = let low = h.low in absurd (omega (arith, ints))
-
-pub settings_joined : (stated : Stated) (line : List ℕ) (s : Statement) → AreSettings stated → States line s → IsOver stated s None → AreSettings (joined stated s)
-settings_joined stated line (Approach z) h says over =
-    record { approach = (first_within (held limit.Approach z) [] (front_none (numbers (Approach z)) (counts stated (Approach z)) over)).0; wall = h.wall; reach = h.reach; corner = h.corner; room = h.room; span = h.span; lanes = h.lanes; delays = h.delays }
-settings_joined stated line (Wall z) h says over =
-    record { approach = h.approach; wall = (first_within (held limit.Wall z) [] (front_none (numbers (Wall z)) (counts stated (Wall z)) over)).0; reach = h.reach; corner = h.corner; room = h.room; span = h.span; lanes = h.lanes; delays = h.delays }
-settings_joined stated line (Reach z) h says over =
-    record { approach = h.approach; wall = h.wall; reach = (first_within (held limit.Reach z) [] (front_none (numbers (Reach z)) (counts stated (Reach z)) over)).0; corner = h.corner; room = h.room; span = h.span; lanes = h.lanes; delays = h.delays }
-settings_joined stated line (Corner c) h says over =
-    let x = first_within (held limit.Coordinate c.x) (held limit.Coordinate c.y ∷ []) (front_none (numbers (Corner c)) (counts stated (Corner c)) over) in
-    let y = first_within (held limit.Coordinate c.y) [] x.1 in
-    record { approach = h.approach; wall = h.wall; reach = h.reach; corner = (x.0, y.0); room = h.room; span = h.span; lanes = h.lanes; delays = h.delays }
-settings_joined stated line (Room z) h says over =
-    record { approach = h.approach; wall = h.wall; reach = h.reach; corner = h.corner; room = (first_within (held limit.Room z) [] (front_none (numbers (Room z)) (counts stated (Room z)) over)).0; span = h.span; lanes = h.lanes; delays = h.delays }
-settings_joined stated line (Span z) h says over =
-    record { approach = h.approach; wall = h.wall; reach = h.reach; corner = h.corner; room = h.room; span = (first_within (held limit.Span z) [] (front_none (numbers (Span z)) (counts stated (Span z)) over)).0; lanes = h.lanes; delays = h.delays }
-settings_joined stated line (Lanes s) h says over =
-    let low = first_within (held limit.Coordinate s.low) (held limit.Coordinate s.high ∷ (held limit.LanesLength s.len ∷ [])) (front_none (numbers (Lanes s)) (counts stated (Lanes s)) over) in
-    let high = first_within (held limit.Coordinate s.high) (held limit.LanesLength s.len ∷ []) low.1 in
-    let len = some_length s.len MOST_LANES (first_within (held limit.LanesLength s.len) [] high.1).0 in
-    let is = says.items_are in
-    record {
-      approach = h.approach;
-      wall = h.wall;
-      reach = h.reach;
-      corner = h.corner;
-      room = h.room;
-      span = h.span;
-      lanes = record { low = low.0; high = high.0; order = is.order s.low s.high is.number_low is.number_high; some = len.0; few = len.1 };
-      delays = h.delays;
-    }
-settings_joined stated line (Delays s) h says over =
-    let low = first_within (held limit.LeastGap s.low) (held limit.GreatestGap s.high ∷ (held limit.GapsLength s.len ∷ [])) (front_none (numbers (Delays s)) (counts stated (Delays s)) over) in
-    let high = first_within (held limit.GreatestGap s.high) (held limit.GapsLength s.len ∷ []) low.1 in
-    let len = any_length s.len MOST_GAPS (first_within (held limit.GapsLength s.len) [] high.1).0 in
-    let is = says.items_are in
-    record {
-      approach = h.approach;
-      wall = h.wall;
-      reach = h.reach;
-      corner = h.corner;
-      room = h.room;
-      span = h.span;
-      lanes = h.lanes;
-      delays = record { low = low.0; order = is.order s.low s.high is.number_low is.number_high; high = high.0; few = len };
-    }
-settings_joined stated line other h says over = settings_same stated (joined stated other) h refl refl refl refl refl refl refl refl
-
-pub settings_fine : (stated : Stated) (ls : List (List ℕ)) (after : Stated) → AreSettings stated → AreFine stated ls after → AreSettings after
-settings_fine stated [] after h e = subst AreSettings (sym e) h
-settings_fine stated (line ∷ ls) after h (inl f) = settings_fine stated ls after h f.1
-settings_fine stated (line ∷ ls) after h (inr f) =
-    let fine = f.1.1.0 in
-    settings_fine (joined stated f.1.0) ls after (settings_joined stated line f.1.0 h fine.states fine.within) f.1.1.1
 
 -- ---- bodies
 
@@ -206,14 +195,6 @@ hand_joined stated line other h says over = h
 
 -- ---- kinds
 
-all_more : {V : Type 0} (P : V → Type 0) (vs : List V) (v : V) → AllByRecursion P vs → P v → AllByRecursion P (vs ++ v ∷ [])
-all_more P [] v h k = (k, tt)
-all_more P (w ∷ vs) v h k = (h.0, all_more P vs v h.1 k)
-
--- the numbers behind those of a place
-behind_none_of : (ns ms : List Limited) → IsFirstOutside (ns ++ ms) None → IsFirstOutside ms None
-behind_none_of ns ms h = behind_none ns ms h
-
 kind_proper : (stated : Stated) (line : List ℕ) (elbow : ElbowLine) → States line (Elbow elbow) → IsOver stated (Elbow elbow) None → IsProperKind (kind_of elbow)
 kind_proper stated line elbow says over =
     let is = says.items_are in
@@ -224,7 +205,7 @@ kind_proper stated line elbow says over =
     record { name = is.name_is; lives = drawn.lives; placed = drawn.placed }
 
 pub kinds_joined : (stated : Stated) (line : List ℕ) (s : Statement) → AllByRecursion IsProperKind stated.kinds → States line s → IsOver stated s None → AllByRecursion IsProperKind (joined stated s).kinds
-kinds_joined stated line (Elbow elbow) h says over = all_more IsProperKind stated.kinds (kind_of elbow) h (kind_proper stated line elbow says over)
+kinds_joined stated line (Elbow elbow) h says over = all_push IsProperKind stated.kinds (kind_of elbow) h (kind_proper stated line elbow says over)
 kinds_joined stated line other h says over = h
 
 -- ---- names
@@ -364,7 +345,7 @@ turns_more m n (t ∷ turns) l h = (
 
 pub turns_joined : (stated : Stated) (line : List ℕ) (s : Statement) → AllByRecursion (IsProperTurn (length stated.kinds)) stated.turns → States line s → KnowsKinds stated s → IsOver stated s None
     → AllByRecursion (IsProperTurn (length (joined stated s).kinds)) (joined stated s).turns
-turns_joined stated line (Turn turn) h says known over = all_more (IsProperTurn (length stated.kinds)) stated.turns (turn_of stated.kinds turn) h (turn_proper stated line turn says known over)
+turns_joined stated line (Turn turn) h says known over = all_push (IsProperTurn (length stated.kinds)) stated.turns (turn_of stated.kinds turn) h (turn_proper stated line turn says known over)
 turns_joined stated line (Elbow elbow) h says known over = turns_more (length stated.kinds) _ stated.turns (one_kind_more stated.kinds (kind_of elbow)) h
 turns_joined stated line other h says known over = h
 
@@ -407,7 +388,7 @@ salvo_proper stated line salvo says over =
     }
 
 pub salvos_joined : (stated : Stated) (line : List ℕ) (s : Statement) → AllByRecursion IsProperSalvo stated.salvos → States line s → IsOver stated s None → AllByRecursion IsProperSalvo (joined stated s).salvos
-salvos_joined stated line (Salvo salvo) h says over = all_more IsProperSalvo stated.salvos (salvo_of salvo) h (salvo_proper stated line salvo says over)
+salvos_joined stated line (Salvo salvo) h says over = all_push IsProperSalvo stated.salvos (salvo_of salvo) h (salvo_proper stated line salvo says over)
 salvos_joined stated line other h says over = h
 
 -- ---- cells
@@ -492,19 +473,8 @@ some_kinds (k ∷ kinds) h = omega arith
 pub text_proper : (text : List ℕ) (said : Said) → Says text said → (said.settings.wall +ℤ WALL_MARGIN) ≤ℤ said.settings.reach → IsProperBook said
 text_proper text said says far =
     let sound = sound_fine nothing_stated says.read.body (whole said) nothing_sound says.read.fine in
-    let s = sound.settings in
     record {
-      settings = record {
-        approach = s.approach;
-        wall = s.wall;
-        reach = record { low = far; high = s.reach.high };
-        corner_x = s.corner.0;
-        corner_y = s.corner.1;
-        room = s.room;
-        span = s.span;
-        lanes = s.lanes;
-        delays = s.delays;
-      };
+      settings = proper_settings said.settings sound.settings far;
       hand = sound.hand;
       some_kind = some_kinds said.kinds says.some_kind;
       few_kinds = sound.few_kinds;

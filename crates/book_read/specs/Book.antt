@@ -4,23 +4,17 @@ use Rattle.std.specs.Str.Lines.{lines}
 use Rattle.std.specs.declared.option.Option.TheVariants.{Some}
 use Rattle.book_parts.specs.declared.limits.TheConstants.{WALL_MARGIN}
 pub use Rattle.book_parts.specs.Said.{Said}
+use Rattle.book_lines.specs.declared.book_word.TheConstants.{BOOK_WORDS}
 use Rattle.book_lines.specs.declared.fault.LineFault.TheVariants as fault
 use Rattle.book_read.specs.declared.error.BookError.{BookError}
 use Rattle.book_read.specs.declared.error.BookError.TheVariants.{BadLine, Missing, WallReach, Memory}
-use Rattle.book_read.specs.Stated.{Stated, nothing_stated}
-use Rattle.book_read.specs.Reading.{AreFine, IsBegun, HasNoVersion, IsRefusedAmong, book_words, IsFirstMissing}
+use Rattle.book_read.specs.Stated.{Stated, nothing_stated, setting_numbers}
+use Rattle.book_read.specs.Reading.{AreFine, IsBegun, HasNoVersion, IsRefusedAmong, IsFirstMissing}
 
 -- all that a book says is stated
 abbrev pub whole : Said → Stated
 whole said = record {
-  approach = Some said.settings.approach;
-  wall = Some said.settings.wall;
-  reach = Some said.settings.reach;
-  corner = Some said.settings.corner;
-  room = Some said.settings.room;
-  span = Some said.settings.span;
-  lanes = Some said.settings.lanes;
-  delays = Some said.settings.delays;
+  settings = setting_numbers said.settings;
   hand = Some said.hand;
   kinds = said.kinds;
   start = Some said.start;
@@ -54,7 +48,7 @@ pub record StopsInLine (ls : List (List ℕ)) (e : BookError) : Type 0 where
 -- the reading of a book's text stops with this refusal: the first faulty line decides; where there is none, what is missing
 abbrev pub StopsWith : List ℕ → BookError → Type 0
 StopsWith text (BadLine line fault.Version) = HasNoVersion (lines text) line
-StopsWith text (Missing missing) = (stated : Stated) × (AreRead (lines text) stated × IsFirstMissing stated book_words missing)
+StopsWith text (Missing missing) = (stated : Stated) × (AreRead (lines text) stated × IsFirstMissing stated BOOK_WORDS missing)
 StopsWith text (WallReach wall reach) = (said : Said) × (Says text said × ((said.settings.wall ≡ wall) × ((said.settings.reach ≡ reach) × (reach <ℤ (wall +ℤ WALL_MARGIN)))))
 StopsWith text Memory = Unit {0}
 StopsWith text other = StopsInLine (lines text) other

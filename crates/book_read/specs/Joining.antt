@@ -9,7 +9,7 @@ use Rattle.book_parts.specs.declared.salvo.RawSalvo.{RawSalvo}
 use Rattle.book_lines.specs.declared.statement.Leaves.{Leaves}
 use Rattle.book_lines.specs.declared.statement.Leaves.TheVariants.{Close, Move, Emit}
 use Rattle.book_lines.specs.declared.statement.Statement.{Statement}
-use Rattle.book_lines.specs.declared.statement.Statement.TheVariants.{Approach, Wall, Reach, Corner, Room, Span, Lanes, Delays, Hand, Elbow, Start, Turn, Salvo}
+use Rattle.book_lines.specs.declared.statement.Statement.TheVariants.{Setting, Hand, Elbow, Start, Turn, Salvo}
 use Rattle.book_lines.specs.Statements.{States}
 use Rattle.book_read.specs.Names.{number_of}
 use Rattle.book_read.specs.Stated.{Stated}
@@ -24,14 +24,7 @@ entry_names stated = map (λ (turn : RawTurn). turn.name) stated.turns ++ map (�
 
 -- the setting, or the entry's name, doesn't come again
 abbrev pub IsNew : Stated → Statement → Type 0
-IsNew stated (Approach z) = stated.approach ≡ None
-IsNew stated (Wall z) = stated.wall ≡ None
-IsNew stated (Reach z) = stated.reach ≡ None
-IsNew stated (Corner c) = stated.corner ≡ None
-IsNew stated (Room z) = stated.room ≡ None
-IsNew stated (Span z) = stated.span ≡ None
-IsNew stated (Lanes spread) = stated.lanes ≡ None
-IsNew stated (Delays spread) = stated.delays ≡ None
+IsNew stated (Setting setting) = stated.settings setting.word ≡ None
 IsNew stated (Hand body) = stated.hand ≡ None
 IsNew stated (Elbow elbow) = IsNoneOf (kind_names stated) elbow.name
 IsNew stated (Start name) = stated.start ≡ None

@@ -1,42 +1,25 @@
--- The limits of a line's numbers, and of the counts that it raises.
-use Rattle.std.specs.Prelude.{◌≡◌, ℕ, ◌+◌, ◌⊎◌, ℤ, pos, ◌≤ℤ◌, List, [], ◌∷◌, ◌++◌, length, map, sum_by, flat_map, Option}
+-- A line's numbers and the counts that it raises, held against their limits.
+use Rattle.std.specs.Prelude.{◌≡◌, ℕ, ◌+◌, ◌⊎◌, ℤ, pos, List, [], ◌∷◌, ◌++◌, length, map, sum_by, flat_map, Option}
 use Rattle.std.specs.declared.option.Option.TheVariants.{Some, None}
-use Rattle.life_plane.specs.Tracks.{gap}
+use Rattle.std.specs.List.{zip}
 use Rattle.life_cells.specs.Cells.{Cells, in_order}
 use Rattle.life_cells.specs.declared.cell.Cell.{Cell}
-use Rattle.book_parts.specs.declared.limits.TheConstants.{MOST_KINDS, MOST_TURNS, MOST_SALVOS, MOST_DELAYS, MOST_GAPS, MOST_LANES, MOST_CELLS, LONGEST_DELAY, LONGEST_TURN, GREATEST_WALL, GREATEST_REACH, GREATEST_ROOM, GREATEST_SPAN}
-use Rattle.book_parts.specs.Limits.{IsFrom, IsCoordinate, IsApproach}
-use Rattle.book_parts.specs.Proper.{IsDelay, IsIndex}
+use Rattle.book_parts.specs.declared.limits.TheConstants.{MOST_KINDS, MOST_TURNS, MOST_SALVOS, MOST_DELAYS, MOST_LANES, MOST_CELLS}
 use Rattle.book_parts.specs.declared.kind.RawKind.{RawKind}
 use Rattle.book_parts.specs.declared.salvo.RawSalvo.{RawSalvo}
 use Rattle.book_lines.specs.declared.statement.Body.{Body}
 use Rattle.book_lines.specs.declared.statement.Body.TheVariants.{Drawn, TooMany}
+use Rattle.book_lines.specs.declared.statement.SettingLine.{SettingLine}
 use Rattle.book_lines.specs.declared.statement.Placed.{Placed}
 use Rattle.book_lines.specs.declared.statement.Leaves.{Leaves}
 use Rattle.book_lines.specs.declared.statement.Leaves.TheVariants.{Close, Move, Emit}
 use Rattle.book_lines.specs.declared.statement.Statement.{Statement}
-use Rattle.book_lines.specs.declared.statement.Statement.TheVariants.{Approach, Wall, Reach, Corner, Room, Span, Lanes, Delays, Hand, Elbow, Start, Turn, Salvo}
+use Rattle.book_lines.specs.declared.statement.Statement.TheVariants.{Setting, Hand, Elbow, Start, Turn, Salvo}
+use Rattle.book_lines.specs.Limits.{IsWithin, limits}
 use Rattle.book_lines.specs.Counts.{delay_count, lane_count, cell_count}
-use Rattle.book_read.specs.declared.limit.Limit.{Limit}
-use Rattle.book_read.specs.declared.limit.Limit.TheVariants as limit
+use Rattle.book_lines.specs.declared.limit.Limit.{Limit}
+use Rattle.book_lines.specs.declared.limit.Limit.TheVariants as limit
 use Rattle.book_read.specs.Stated.{Stated, joined}
-
--- a number is within a limit
-abbrev pub IsWithin : Limit → ℤ → Type 0
-IsWithin limit.Approach z = IsApproach z
-IsWithin limit.Wall z = IsFrom (pos 1) GREATEST_WALL z
-IsWithin limit.Reach z = IsFrom (pos 1) GREATEST_REACH z
-IsWithin limit.Coordinate z = IsCoordinate z
-IsWithin limit.Room z = IsFrom (pos 0) GREATEST_ROOM z
-IsWithin limit.Span z = IsFrom (pos 0) GREATEST_SPAN z
-IsWithin limit.LanesLength z = IsFrom (pos 1) (pos MOST_LANES) z
-IsWithin limit.LeastGap z = pos gap ≤ℤ z
-IsWithin limit.GreatestGap z = z ≤ℤ LONGEST_DELAY
-IsWithin limit.GapsLength z = IsFrom (pos 0) (pos MOST_GAPS) z
-IsWithin limit.Time z = IsFrom (pos 0) (pos LONGEST_TURN) z
-IsWithin limit.Delay z = IsDelay z
-IsWithin limit.Index z = IsIndex z
-IsWithin (limit.Count most) z = z ≤ℤ pos most
 
 -- a number, or a count, and the limit that it is held against
 pub record Limited : Type 0 where
@@ -45,6 +28,10 @@ pub record Limited : Type 0 where
 
 abbrev pub held : Limit → ℤ → Limited
 held limit z = record { limit = limit; number = z }
+
+-- the numbers of a setting, each with the limit at its place
+abbrev pub setting_limited : SettingLine → List Limited
+setting_limited setting = map (λ (p : Limit × ℤ). held p.0 p.1) (zip (limits setting.word) setting.numbers)
 
 abbrev pub cell_numbers : Cell → List Limited
 cell_numbers c = held limit.Coordinate c.x ∷ (held limit.Coordinate c.y ∷ [])
@@ -72,14 +59,7 @@ place_numbers (Some place) = cell_numbers place
 
 -- the numbers of a line, in its order
 abbrev pub numbers : Statement → List Limited
-numbers (Approach z) = held limit.Approach z ∷ []
-numbers (Wall z) = held limit.Wall z ∷ []
-numbers (Reach z) = held limit.Reach z ∷ []
-numbers (Corner c) = cell_numbers c
-numbers (Room z) = held limit.Room z ∷ []
-numbers (Span z) = held limit.Span z ∷ []
-numbers (Lanes spread) = held limit.Coordinate spread.low ∷ (held limit.Coordinate spread.high ∷ (held limit.LanesLength spread.len ∷ []))
-numbers (Delays spread) = held limit.LeastGap spread.low ∷ (held limit.GreatestGap spread.high ∷ (held limit.GapsLength spread.len ∷ []))
+numbers (Setting setting) = setting_limited setting
 numbers (Hand body) = body_numbers body
 numbers (Elbow elbow) = placed_numbers elbow.placed
 numbers (Start name) = []

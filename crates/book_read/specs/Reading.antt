@@ -8,8 +8,8 @@ use Rattle.book_lines.specs.Statements.{States}
 use Rattle.book_lines.specs.Faults.{IsLineFault}
 use Rattle.book_read.specs.declared.error.BookError.{BookError}
 use Rattle.book_read.specs.declared.error.BookError.TheVariants.{BadLine, Doubled, UnknownKind, LimitOver}
-use Rattle.book_read.specs.declared.error.BookWord.{BookWord}
-use Rattle.book_read.specs.declared.error.BookWord.TheVariants as word
+use Rattle.book_lines.specs.declared.book_word.BookWord.{BookWord}
+use Rattle.book_lines.specs.declared.book_word.BookWord.TheVariants as word
 use Rattle.book_read.specs.Stated.{Stated, nothing_stated, joined}
 use Rattle.book_read.specs.Limited.{IsOver}
 use Rattle.book_read.specs.Joining.{IsNew, KnowsKinds, IsFine}
@@ -71,23 +71,10 @@ pub record IsRefusedAmong (before : ℕ) (ls : List (List ℕ)) (e : BookError) 
 
 -- no line has stated what begins with this word
 abbrev pub IsMissing : Stated → BookWord → Type 0
-IsMissing stated word.Approach = stated.approach ≡ None
-IsMissing stated word.Wall = stated.wall ≡ None
-IsMissing stated word.Reach = stated.reach ≡ None
-IsMissing stated word.Corner = stated.corner ≡ None
-IsMissing stated word.Room = stated.room ≡ None
-IsMissing stated word.Span = stated.span ≡ None
-IsMissing stated word.Lanes = stated.lanes ≡ None
-IsMissing stated word.Delays = stated.delays ≡ None
 IsMissing stated word.Hand = stated.hand ≡ None
 IsMissing stated word.Elbow = stated.kinds ≡ []
 IsMissing stated word.Start = stated.start ≡ None
-
--- the words that every book has
-abbrev pub book_words : List BookWord
-book_words =
-    word.Approach ∷ (word.Wall ∷ (word.Reach ∷ (word.Corner ∷ (word.Room ∷ (word.Span
-    ∷ (word.Lanes ∷ (word.Delays ∷ (word.Hand ∷ (word.Elbow ∷ (word.Start ∷ []))))))))))
+IsMissing stated setting = stated.settings setting ≡ None
 
 -- the first of these words that is missing
 abbrev pub IsFirstMissing : Stated → List BookWord → BookWord → Type 0

@@ -1,37 +1,35 @@
 -- What lines have stated together.
-use Rattle.std.specs.Prelude.{ℕ, ℤ, nat_abs, List, [], ◌∷◌, ◌++◌, Option}
+use Rattle.std.specs.Prelude.{ℕ, ℤ, pos, nat_abs, List, [], ◌∷◌, ◌++◌, Option}
 use Rattle.std.specs.declared.option.Option.TheVariants.{Some, None}
+use Rattle.std.specs.Map.{update}
+use denote.Enum.Bare.{sameb}
 use Rattle.life_cells.specs.Cells.{Cells, empty}
 use Rattle.life_cells.specs.declared.cell.Cell.{Cell}
+use Rattle.book_parts.specs.declared.settings.Settings.{Settings}
 use Rattle.book_parts.specs.declared.settings.Range.{Range}
 use Rattle.book_parts.specs.declared.kind.RawKind.{RawKind}
 use Rattle.book_parts.specs.declared.turn.RawTurn.{RawTurn}
 use Rattle.book_parts.specs.declared.turn.TurnEnd.{TurnEnd}
 use Rattle.book_parts.specs.declared.turn.TurnEnd.TheVariants as ending
 use Rattle.book_parts.specs.declared.salvo.RawSalvo.{RawSalvo}
+use Rattle.book_lines.specs.declared.book_word.BookWord.{BookWord}
+use Rattle.book_lines.specs.declared.book_word.BookWord.TheVariants as word
+use Rattle.book_lines.specs.contracts.book_word.BookWord.{the_type}
 use Rattle.book_lines.specs.declared.statement.Body.{Body}
 use Rattle.book_lines.specs.declared.statement.Body.TheVariants.{Drawn, TooMany}
 use Rattle.book_lines.specs.declared.statement.Placed.{Placed}
-use Rattle.book_lines.specs.declared.statement.Spread.{Spread}
 use Rattle.book_lines.specs.declared.statement.Leaves.{Leaves}
 use Rattle.book_lines.specs.declared.statement.Leaves.TheVariants.{Close, Move, Emit}
 use Rattle.book_lines.specs.declared.statement.ElbowLine.{ElbowLine}
 use Rattle.book_lines.specs.declared.statement.TurnLine.{TurnLine}
 use Rattle.book_lines.specs.declared.statement.SalvoLine.{SalvoLine}
 use Rattle.book_lines.specs.declared.statement.Statement.{Statement}
-use Rattle.book_lines.specs.declared.statement.Statement.TheVariants.{Approach, Wall, Reach, Corner, Room, Span, Lanes, Delays, Hand, Elbow, Start, Turn, Salvo}
+use Rattle.book_lines.specs.declared.statement.Statement.TheVariants.{Setting, Hand, Elbow, Start, Turn, Salvo}
 use Rattle.book_read.specs.Names.{known_number}
 
--- the settings, the hand and the start kind, each where a line has stated it; the kinds, turns and salvos in the order of their lines
+-- the numbers of each setting, the hand and the start kind, each where a line has stated it; the kinds, turns and salvos in the order of their lines
 pub record Stated : Type 0 where
-  pub approach : Option ℤ
-  pub wall : Option ℤ
-  pub reach : Option ℤ
-  pub corner : Option Cell
-  pub room : Option ℤ
-  pub span : Option ℤ
-  pub lanes : Option Range
-  pub delays : Option Range
+  pub settings : BookWord → Option (List ℤ)
   pub hand : Option Cells
   pub kinds : List RawKind
   pub start : Option ℕ
@@ -41,14 +39,7 @@ pub record Stated : Type 0 where
 -- before the first line
 abbrev pub nothing_stated : Stated
 nothing_stated = record {
-  approach = None;
-  wall = None;
-  reach = None;
-  corner = None;
-  room = None;
-  span = None;
-  lanes = None;
-  delays = None;
+  settings = λ word. None;
   hand = None;
   kinds = [];
   start = None;
@@ -56,8 +47,25 @@ nothing_stated = record {
   salvos = [];
 }
 
-abbrev pub range_of : Spread → Range
-range_of spread = record { low = spread.low; high = spread.high; len = nat_abs spread.len }
+-- `X Y`
+abbrev pub coordinates : Cell → List ℤ
+coordinates place = place.x ∷ (place.y ∷ [])
+
+-- `LOW HIGH LEN`
+abbrev pub range_numbers : Range → List ℤ
+range_numbers range = range.low ∷ (range.high ∷ (pos range.len ∷ []))
+
+-- the numbers of each setting; a word that is no setting has none
+abbrev pub setting_numbers : Settings → BookWord → Option (List ℤ)
+setting_numbers s word.Approach = Some (s.approach ∷ [])
+setting_numbers s word.Wall = Some (s.wall ∷ [])
+setting_numbers s word.Reach = Some (s.reach ∷ [])
+setting_numbers s word.Corner = Some (coordinates s.corner)
+setting_numbers s word.Room = Some (s.room ∷ [])
+setting_numbers s word.Span = Some (s.span ∷ [])
+setting_numbers s word.Lanes = Some (range_numbers s.lanes)
+setting_numbers s word.Delays = Some (range_numbers s.delays)
+setting_numbers s other = None
 
 -- the live cells of a body; of too many none is looked at
 abbrev pub cells_of : Body → Cells
@@ -91,14 +99,7 @@ salvo_of salvo = record { name = salvo.name; lanes = salvo.lanes; product = prod
 
 -- what is stated with one statement more
 abbrev pub joined : Stated → Statement → Stated
-joined stated (Approach z) = record stated { approach = Some z }
-joined stated (Wall z) = record stated { wall = Some z }
-joined stated (Reach z) = record stated { reach = Some z }
-joined stated (Corner c) = record stated { corner = Some c }
-joined stated (Room z) = record stated { room = Some z }
-joined stated (Span z) = record stated { span = Some z }
-joined stated (Lanes spread) = record stated { lanes = Some (range_of spread) }
-joined stated (Delays spread) = record stated { delays = Some (range_of spread) }
+joined stated (Setting setting) = record stated { settings = update (sameb the_type) stated.settings setting.word (Some setting.numbers) }
 joined stated (Hand body) = record stated { hand = Some (cells_of body) }
 joined stated (Elbow elbow) = record stated { kinds = stated.kinds ++ (kind_of elbow ∷ []) }
 joined stated (Start name) = record stated { start = Some (known_number stated.kinds name) }

@@ -8,9 +8,8 @@ ghost use Rattle.book_read.specs.Limited.{held, counts, IsFirstOutside};
 ghost use Rattle.book_read.specs.Drafted.{stated_of, IsKept};
 
 use crate::draft::Draft;
-use crate::limit::Limit;
 use crate::outside::outside;
-use book_lines::{Body, Placed, Statement};
+use book_lines::{Body, Limit, Placed, Statement};
 use book_parts::limits::{
     MOST_CELLS, MOST_DELAYS, MOST_KINDS, MOST_LANES, MOST_SALVOS, MOST_TURNS,
 };

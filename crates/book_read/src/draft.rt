@@ -1,31 +1,27 @@
 //! What the lines of a book have stated so far.
 
-ghost use Rattle.std.specs.Prelude.{◌≡◌, ◌↔◌, IsTrue, OnOk, Option, pos};
-ghost use Rattle.std.specs.declared.option.Option.TheVariants.{None};
+ghost use Rattle.std.specs.Prelude.{◌≡◌, ◌↔◌, IsTrue, OnOk, Option, MatchOption, pos};
+ghost use Rattle.std.specs.declared.option.Option.TheVariants.{Some, None};
 ghost use Rattle.book_read.specs.Names.{number_of, known_number};
-ghost use Rattle.book_read.specs.Stated.{Stated, nothing_stated, range_of, cells_of, product_of, turn_of, end_of, joined};
+ghost use Rattle.book_read.specs.Stated.{Stated, nothing_stated, cells_of, product_of, turn_of, end_of, joined};
+ghost use Rattle.book_lines.specs.Counts.{HasItsNumbers};
 ghost use Rattle.book_read.specs.Limited.{IsOver};
 ghost use Rattle.book_read.specs.Joining.{IsNew};
-ghost use Rattle.book_read.specs.Drafted.{stated_of, IsKept};
+ghost use Rattle.book_read.specs.Reading.{IsMissing};
+ghost use Rattle.book_read.specs.Drafted.{numbers_of, stated_of, IsKept};
 ghost use Rattle.book_parts.specs.Limits.{IsFrom};
 
-use book_lines::{Body, ElbowLine, Leaves, Placed, Spread, Statement, TurnLine};
-use book_parts::limits::{LONGEST_TURN, MOST_LANES};
-use book_parts::{Range, RawKind, RawSalvo, RawTurn, TurnEnd};
-use life_cells::{Cell, CellSet, NoMemory};
+use book_lines::{Body, BookWord, ElbowLine, Leaves, Placed, SettingLine, Statement, TurnLine};
+use book_parts::limits::LONGEST_TURN;
+use book_parts::{RawKind, RawSalvo, RawTurn, TurnEnd};
+use life_cells::{CellSet, NoMemory};
 use std::alloc::Global;
 
 /// What the lines so far have stated.
 #[derive(Drop)]
 pub struct Draft {
-    pub approach: Option<i64>,
-    pub wall: Option<i64>,
-    pub reach: Option<i64>,
-    pub corner: Option<Cell>,
-    pub room: Option<i64>,
-    pub span: Option<i64>,
-    pub lanes: Option<Range>,
-    pub delays: Option<Range>,
+    /// The settings, in the order of their lines.
+    pub settings: Vec<SettingLine>,
     pub hand: Option<CellSet>,
     pub kinds: Vec<RawKind>,
     pub start: Option<usize>,
@@ -42,14 +38,7 @@ impl Draft {
         ensures kept { IsKept result }
     {
         Draft {
-            approach: None,
-            wall: None,
-            reach: None,
-            corner: None,
-            room: None,
-            span: None,
-            lanes: None,
-            delays: None,
+            settings: Vec::new(alloc),
             hand: None,
             kinds: Vec::new(alloc),
             start: None,
@@ -59,23 +48,41 @@ impl Draft {
         }
     }
 
+    /// The numbers of a setting, where it is stated.
+    pub fn numbers(&self, word: BookWord) -> Option<&[i64]>
+        ensures { MatchOption result (numbers_of self.now.settings.items word ≡ None) (λ zs. numbers_of self.now.settings.items word ≡ Some zs.now) }
+    {
+        for setting in &self.settings {
+            if setting.word == word {
+                return Some(setting.numbers.items());
+            }
+        }
+        None
+    }
+
+    /// Whether no line has stated what begins with a word.
+    pub fn is_missing(&self, word: BookWord) -> bool
+        ensures { IsTrue result ↔ IsMissing (stated_of self.now) word }
+    {
+        match word {
+            BookWord::Hand => self.hand.is_none(),
+            BookWord::Elbow => self.kinds.is_empty(),
+            BookWord::Start => self.start.is_none(),
+            _ => self.numbers(word).is_none(),
+        }
+    }
+
     /// Adds what a line states that goes with the lines before it.
     pub fn add(&mut self, alloc: Global, statement: Statement) -> Result<(), NoMemory>
         requires kept { IsKept self.old }
         requires new { IsNew (stated_of self.old) statement }
+        requires counted { HasItsNumbers statement }
         requires within { IsOver (stated_of self.old) statement None }
         ensures stated { OnOk result (stated_of self.new ≡ joined (stated_of self.old) statement) }
         ensures kept { OnOk result (IsKept self.new) }
     {
         match statement {
-            Statement::Approach(approach) => self.approach = Some(approach),
-            Statement::Wall(wall) => self.wall = Some(wall),
-            Statement::Reach(reach) => self.reach = Some(reach),
-            Statement::Corner(corner) => self.corner = Some(corner),
-            Statement::Room(room) => self.room = Some(room),
-            Statement::Span(span) => self.span = Some(span),
-            Statement::Lanes(lanes) => self.lanes = Some(range_of(lanes)),
-            Statement::Delays(delays) => self.delays = Some(range_of(delays)),
+            Statement::Setting(setting) => self.settings.push(setting)?,
             Statement::Hand(body) => {
                 let hand = cells_of(alloc, body);
                 self.cells += hand.len();
@@ -123,18 +130,6 @@ fn known_number(kinds: &[RawKind], name: &str) -> usize
     ensures { result ≡ known_number kinds.now name.now }
 {
     number_of(kinds, name).unwrap_or(0)
-}
-
-/// The range of a spread whose length is within its limits.
-fn range_of(spread: Spread) -> Range
-    requires { IsFrom (pos 0) (pos MOST_LANES) spread.len }
-    ensures { result ≡ range_of spread }
-{
-    Range {
-        low: spread.low,
-        high: spread.high,
-        len: spread.len as u32,
-    }
 }
 
 /// The cells of a body; of too many none.

@@ -3,37 +3,10 @@
 ghost use Rattle.std.specs.Prelude.{◌≡◌};
 ghost use Rattle.book_read.specs.declared.error.BookError.TheVariants.{Memory};
 
-use book_lines::LineFault;
+use book_lines::{BookWord, LineFault};
 use life_cells::NoMemory;
 use std::alloc::AllocFailed;
 use thiserror::Error;
-
-/// A word that every book has.
-#[derive(Clone, Copy, Debug, PartialEq, Eq)]
-pub enum BookWord {
-    /// How far before a turn's frame its first glider stands.
-    Approach,
-    /// The greatest u of a kind.
-    Wall,
-    /// The greatest u of a turn's reaction.
-    Reach,
-    /// Where the target's lower left corner is built.
-    Corner,
-    /// The margin of hand places about the target.
-    Room,
-    /// The greatest absolute shift of the elbow.
-    Span,
-    /// The finder's lanes.
-    Lanes,
-    /// The finder's gaps between delays.
-    Delays,
-    /// The hand.
-    Hand,
-    /// The kinds of elbow: one line each, and at least one.
-    Elbow,
-    /// The kind that the stream begins at.
-    Start,
-}
 
 /// Why a book is not read. Lines count from 1.
 #[derive(Clone, Copy, Debug, PartialEq, Eq, Error)]

@@ -1,12 +1,9 @@
 //! Whether a statement goes with the lines before it.
 
-ghost use Rattle.std.specs.Prelude.{◌≡◌, ◌↔◌, IsTrue, IsSome, is_some, map};
+ghost use Rattle.std.specs.Prelude.{◌≡◌, ◌↔◌, IsTrue, IsSome, is_some};
 ghost use Rattle.std.specs.List.{AllByRecursion};
 ghost use Rattle.book_read.specs.Names.{number_of};
 ghost use Rattle.book_parts.specs.Proper.{IsNoneOf};
-ghost use Rattle.book_parts.specs.declared.kind.RawKind.{RawKind};
-ghost use Rattle.book_parts.specs.declared.turn.RawTurn.{RawTurn};
-ghost use Rattle.book_parts.specs.declared.salvo.RawSalvo.{RawSalvo};
 ghost use Rattle.book_lines.specs.Counts.{HasSmallCounts};
 ghost use Rattle.book_read.specs.Limited.{IsOver};
 ghost use Rattle.book_read.specs.Joining.{IsNew, KnowsKinds, entry_names, kinds_left};
@@ -14,25 +11,19 @@ ghost use Rattle.book_read.specs.Drafted.{stated_of, IsKept};
 
 use crate::counting::count_outside;
 use crate::draft::{Draft, number_of};
+use crate::named::is_new_name;
 use crate::outside::number_outside;
 use book_lines::{Leaves, Statement};
-use book_parts::{RawKind, RawSalvo, RawTurn};
+use book_parts::RawKind;
 
 /// Whether a statement's setting, or the name of its entry, does not come again.
 pub fn is_new(draft: &Draft, statement: &Statement) -> bool
     ensures { IsTrue result ↔ IsNew (stated_of draft.now) statement.now }
 {
     match statement {
-        Statement::Approach(_) => draft.approach.is_none(),
-        Statement::Wall(_) => draft.wall.is_none(),
-        Statement::Reach(_) => draft.reach.is_none(),
-        Statement::Corner(_) => draft.corner.is_none(),
-        Statement::Room(_) => draft.room.is_none(),
-        Statement::Span(_) => draft.span.is_none(),
-        Statement::Lanes(_) => draft.lanes.is_none(),
-        Statement::Delays(_) => draft.delays.is_none(),
+        Statement::Setting(setting) => draft.numbers(setting.word).is_none(),
         Statement::Hand(_) => draft.hand.is_none(),
-        Statement::Elbow(elbow) => is_new_kind(&draft.kinds, elbow.name.text()),
+        Statement::Elbow(elbow) => is_new_name(&draft.kinds, elbow.name.text()),
         Statement::Start(_) => draft.start.is_none(),
         Statement::Turn(turn) => is_new_entry(draft, turn.name.text()),
         Statement::Salvo(salvo) => is_new_entry(draft, salvo.name.text()),
@@ -63,47 +54,11 @@ pub fn over(draft: &Draft, statement: &Statement) -> Option<i64>
     number.or(count)
 }
 
-/// Whether no kind has this name.
-fn is_new_kind(kinds: &[RawKind], name: &str) -> bool
-    ensures { IsTrue result ↔ IsNoneOf (map (λ (kind : RawKind). kind.name) kinds.now) name.now }
-{
-    for kind in kinds {
-        if kind.name.text() == name {
-            return false;
-        }
-    }
-    true
-}
-
-/// Whether no turn has this name.
-fn is_new_turn(turns: &[RawTurn], name: &str) -> bool
-    ensures { IsTrue result ↔ IsNoneOf (map (λ (turn : RawTurn). turn.name) turns.now) name.now }
-{
-    for turn in turns {
-        if turn.name.text() == name {
-            return false;
-        }
-    }
-    true
-}
-
-/// Whether no salvo has this name.
-fn is_new_salvo(salvos: &[RawSalvo], name: &str) -> bool
-    ensures { IsTrue result ↔ IsNoneOf (map (λ (salvo : RawSalvo). salvo.name) salvos.now) name.now }
-{
-    for salvo in salvos {
-        if salvo.name.text() == name {
-            return false;
-        }
-    }
-    true
-}
-
 /// Whether no turn and no salvo has this name.
 fn is_new_entry(draft: &Draft, name: &str) -> bool
     ensures { IsTrue result ↔ IsNoneOf (entry_names (stated_of draft.now)) name.now }
 {
-    is_new_turn(&draft.turns, name) && is_new_salvo(&draft.salvos, name)
+    is_new_name(&draft.turns, name) && is_new_name(&draft.salvos, name)
 }
 
 /// Whether a kind has this name.

@@ -6,11 +6,11 @@ mod draft;
 pub mod error;
 mod joining;
 pub mod laws;
-mod limit;
+mod named;
 mod outside;
 pub mod read;
 mod whole;
 
-pub use book_lines::LineFault;
-pub use error::{BookError, BookWord};
+pub use book_lines::{BookWord, LineFault};
+pub use error::BookError;
 pub use read::read_book;

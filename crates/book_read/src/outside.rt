@@ -2,10 +2,9 @@
 
 ghost use Rattle.std.specs.Prelude.{◌≡◌, ℤ, [], ◌∷◌, ◌++◌, map, flat_map};
 ghost use Rattle.life_cells.specs.Cells.{in_order};
-ghost use Rattle.book_read.specs.Limited.{held, cell_numbers, body_numbers, placed_numbers, leaves_numbers, product_numbers, place_numbers, numbers, IsFirstOutside};
+ghost use Rattle.book_read.specs.Limited.{held, setting_limited, cell_numbers, body_numbers, placed_numbers, leaves_numbers, product_numbers, place_numbers, numbers, IsFirstOutside};
 
-use crate::limit::Limit;
-use book_lines::{Body, Leaves, Placed, SalvoLine, Spread, Statement, TurnLine};
+use book_lines::{Body, Leaves, Limit, Placed, SalvoLine, SettingLine, Statement, TurnLine};
 use life_cells::{Cell, CellSet};
 
 /// The first number of a statement that is outside its limits.
@@ -13,14 +12,7 @@ pub fn number_outside(statement: &Statement) -> Option<i64>
     ensures { IsFirstOutside (numbers statement.now) result }
 {
     match statement {
-        Statement::Approach(approach) => outside(Limit::Approach, *approach),
-        Statement::Wall(wall) => outside(Limit::Wall, *wall),
-        Statement::Reach(reach) => outside(Limit::Reach, *reach),
-        Statement::Corner(corner) => cell_outside(*corner),
-        Statement::Room(room) => outside(Limit::Room, *room),
-        Statement::Span(span) => outside(Limit::Span, *span),
-        Statement::Lanes(lanes) => lanes_outside(*lanes),
-        Statement::Delays(delays) => delays_outside(*delays),
+        Statement::Setting(setting) => setting_outside(setting),
         Statement::Hand(body) => body_outside(body),
         Statement::Elbow(elbow) => placed_outside(&elbow.placed),
         Statement::Start(_) => None,
@@ -48,22 +40,16 @@ fn cell_outside(cell: Cell) -> Option<i64>
     x.or(y)
 }
 
-fn lanes_outside(lanes: Spread) -> Option<i64>
-    ensures { IsFirstOutside (held Limit.Coordinate lanes.low ∷ (held Limit.Coordinate lanes.high ∷ (held Limit.LanesLength lanes.len ∷ []))) result }
+fn setting_outside(setting: &SettingLine) -> Option<i64>
+    ensures { IsFirstOutside (setting_limited setting.now) result }
 {
-    let low = outside(Limit::Coordinate, lanes.low);
-    let high = outside(Limit::Coordinate, lanes.high);
-    let len = outside(Limit::LanesLength, lanes.len);
-    low.or(high.or(len))
-}
-
-fn delays_outside(delays: Spread) -> Option<i64>
-    ensures { IsFirstOutside (held Limit.LeastGap delays.low ∷ (held Limit.GreatestGap delays.high ∷ (held Limit.GapsLength delays.len ∷ []))) result }
-{
-    let low = outside(Limit::LeastGap, delays.low);
-    let high = outside(Limit::GreatestGap, delays.high);
-    let len = outside(Limit::GapsLength, delays.len);
-    low.or(high.or(len))
+    let limits = setting.word.limits();
+    for (limit, number) in limits.iter().zip(setting.numbers.items()) {
+        if !limit.holds(*number) {
+            return Some(*number);
+        }
+    }
+    None
 }
 
 fn numbers_outside(limit: Limit, items: &[i64]) -> Option<i64>

@@ -18,23 +18,31 @@ use Rattle.book_parts.specs.declared.salvo.RawSalvo.{RawSalvo}
 use Rattle.book_parts.specs.Said.{Said}
 use Rattle.book_lines.specs.declared.statement.Body.TheVariants.{Drawn}
 use Rattle.book_lines.specs.declared.statement.Statement.{Statement}
-use Rattle.book_lines.specs.declared.statement.Statement.TheVariants.{Approach, Wall, Reach, Corner, Room, Span, Lanes, Delays, Hand, Elbow, Start, Turn, Salvo}
+use Rattle.book_lines.specs.declared.statement.Statement.TheVariants.{Setting, Hand, Elbow, Start, Turn, Salvo}
 use Rattle.book_lines.specs.Counts.{delay_count, lane_count, cell_count}
-use Rattle.book_read.specs.declared.limit.Limit.TheVariants as limit
-use Rattle.book_read.specs.Stated.{Stated, nothing_stated, joined, end_of, turn_of, salvo_of}
-use Rattle.book_read.specs.Limited.{held, leaves_numbers, place_numbers, product_numbers, IsOver, stated_cells}
+use Rattle.book_lines.specs.declared.limit.Limit.TheVariants as limit
+use Rattle.book_lines.specs.declared.book_word.BookWord.{BookWord}
+use Rattle.book_lines.specs.declared.book_word.BookWord.TheVariants as word
+use Rattle.book_lines.specs.contracts.book_word.BookWord.{the_type}
+use Rattle.book_lines.specs.Limits.{limits}
+use Rattle.book_lines.specs.WordLaws.{each_word}
+use Rattle.book_parts.specs.declared.settings.Range.{Range}
+use Rattle.std.specs.Map.{update}
+use denote.Enum.Bare.{sameb}
+use Rattle.book_read.specs.Stated.{Stated, nothing_stated, coordinates, range_numbers, setting_numbers, joined, end_of, turn_of, salvo_of}
+use Rattle.book_read.specs.Limited.{held, setting_limited, leaves_numbers, place_numbers, product_numbers, IsOver, stated_cells}
 use Rattle.book_read.specs.Names.{number_of}
 use Rattle.book_read.specs.Joining.{IsNew, KnowsKinds, kinds_left}
 use Rattle.book_read.specs.Reading.{AreFine}
 use Rattle.book_read.specs.Book.{Says}
 use Rattle.book_write.specs.Laid.{line_of}
-use Rattle.book_write.specs.Parts.{version_words, settings_words, IsHandLine, IsKindLine, kind_name, start_words, turn_words, IsSalvoLine}
+use Rattle.book_write.specs.Parts.{version_words, setting_line, settings_words, IsHandLine, IsKindLine, kind_name, start_words, turn_words, IsSalvoLine}
 use Rattle.book_write.specs.Canonical.{IsBookText}
 use Rattle.book_write.proofs.Visible.{IsWord}
 use Rattle.book_write.proofs.Splitting.{words_are, lines_are}
 use Rattle.book_write.proofs.Numerals.{IsShort, short_from}
 use Rattle.book_write.proofs.Within.{IsHeld, AreFew, not_over, each_held, body_held}
-use Rattle.book_write.proofs.Stating.{IsLineFor, approach_line, wall_line, reach_line, corner_line, room_line, span_line, lanes_line, delays_line, IsShortRange, short_coordinate, spread_of, hand_line, elbow_of, kind_line, start_line, leaves_of, turn_told, HasNext, turn_line, salvo_told, salvo_line}
+use Rattle.book_write.proofs.Stating.{IsLineFor, AreWritable, setting_line_for, range_order, short_coordinate, hand_line, elbow_of, kind_line, start_line, leaves_of, turn_told, HasNext, turn_line, salvo_told, salvo_line}
 use Rattle.book_write.proofs.Distinct.{none_before, kind_known, name_of_kind}
 use Rattle.life_plane.specs.ListLaws.{all_append}
 use Rattle.book_parts.specs.declared.limits.TheConstants.{MOST_CELLS, MOST_LANES, MOST_GAPS, LONGEST_TURN, LEAST_APPROACH, GREATEST_APPROACH, GREATEST_WALL, GREATEST_REACH, GREATEST_ROOM, GREATEST_SPAN}
@@ -71,14 +79,7 @@ lines_both a b c ls ms h k = record {
 -- what is stated with the settings, the hand, and these
 abbrev told : Said → List RawKind → Option ℕ → List RawTurn → List RawSalvo → Stated
 told book kinds start turns salvos = record {
-  approach = Some book.settings.approach;
-  wall = Some book.settings.wall;
-  reach = Some book.settings.reach;
-  corner = Some book.settings.corner;
-  room = Some book.settings.room;
-  span = Some book.settings.span;
-  lanes = Some book.settings.lanes;
-  delays = Some book.settings.delays;
+  settings = setting_numbers book.settings;
   hand = Some book.hand;
   kinds = kinds;
   start = start;
@@ -92,13 +93,10 @@ near_number least greatest z h a b = let low = h.low in let high = h.high in sho
 reach_held : (s : Settings) → AreProper s → IsFrom (pos 1) GREATEST_REACH s.reach
 reach_held s p = let low = p.reach.low in let high = p.reach.high in let wall = p.wall.low in record { low = omega (arith, ints); high = high }
 
-lanes_short : (s : Settings) → AreProper s → IsShortRange s.lanes
-lanes_short s p = let few = p.lanes.few in record { low = short_coordinate s.lanes.low p.lanes.low; high = short_coordinate s.lanes.high p.lanes.high; len = omega arith; order = p.lanes.order }
-
-delays_short : (s : Settings) → AreProper s → IsShortRange s.delays
+delays_short : (s : Settings) → AreProper s → IsShort s.delays.low × IsShort s.delays.high
 delays_short s p =
-    let few = p.delays.few in let low = p.delays.low in let order = p.delays.order in let high = p.delays.high in
-    record { low = short_from s.delays.low (omega (arith, ints)) (omega (arith, ints)); high = short_from s.delays.high (omega (arith, ints)) (omega (arith, ints)); len = omega arith; order = order }
+    let low = p.delays.low in let order = p.delays.order in let high = p.delays.high in
+    (short_from s.delays.low (omega (arith, ints)) (omega (arith, ints)), short_from s.delays.high (omega (arith, ints)) (omega (arith, ints)))
 
 -- the lengths of the lists of a range
 len_held : (least most n : ℕ) → least ≤ n → n ≤ most → IsFrom (pos least) (pos most) (pos n)
@@ -115,29 +113,58 @@ one_few a s n k t v d l c h = record { kinds = omega arith; turns = omega arith;
 hand_few : (book : Said) → IsProperBook book → length (in_order book.hand) ≤ MOST_CELLS
 hand_few book p = let few = p.few_cells in omega arith
 
+-- settings alone are stated
+abbrev only : (BookWord → Option (List ℤ)) → Stated
+only settings = record { settings = settings; hand = None; kinds = []; start = None; turns = []; salvos = [] }
+
+-- one more
+abbrev with_one : (BookWord → Option (List ℤ)) → BookWord → List ℤ → BookWord → Option (List ℤ)
+with_one settings w zs = update (sameb the_type) settings w (Some zs)
+
+setting_first : (f : BookWord → Option (List ℤ)) (b : Stated) (w : BookWord) (zs : List ℤ) (ls : List (List (List ℕ))) → f w ≡ None → AreWritable w zs → AllByRecursion IsHeld (setting_limited (record { word = w; numbers = zs }))
+    → AreFineFor (only (with_one f w zs)) ls b → AreFineFor (only f) (setting_line w zs ∷ ls) b
+setting_first f b w zs ls new h held rest =
+    let s : Statement = Setting (record { word = w; numbers = zs }) in
+    line_first (only f) b (setting_line w zs) s ls (setting_line_for w zs h) new tt (not_over (only f) s held (zero_few (only f) s refl refl refl refl refl refl)) rest
+
+-- a setting of one number
+one_writable : (w : BookWord) (z : ℤ) → length (limits w) ≡ 1 → IsShort z → AreWritable w (z ∷ [])
+one_writable w z count short = record { short = (short, tt); some = omega arith; count = omega arith; order = tt }
+
+-- a setting of a range
+range_writable : (w : BookWord) (range : Range) → length (limits w) ≡ 3 → IsShort range.low → IsShort range.high → range.low ≤ℤ range.high → range.len ≤ MOST_LANES → AreWritable w (range_numbers range)
+range_writable w range count low high order few = record { short = (low, (high, (omega arith, tt))); some = omega arith; count = omega arith; order = range_order range low high order }
+
 settings_fine : (book : Said) (hand : List (List ℕ)) → IsProperBook book → IsHandLine book.hand hand → AreFineFor nothing_stated (settings_words book.settings ++ (hand ∷ [])) (told book [] None [] [])
 settings_fine book hand p h =
     let s : Settings = book.settings in
     let q = p.settings in
     let cells = hand_few book p in
-    let a1 : Stated = joined nothing_stated (Approach s.approach) in
-    let a2 : Stated = joined a1 (Wall s.wall) in
-    let a3 : Stated = joined a2 (Reach s.reach) in
-    let a4 : Stated = joined a3 (Corner s.corner) in
-    let a5 : Stated = joined a4 (Room s.room) in
-    let a6 : Stated = joined a5 (Span s.span) in
-    let a7 : Stated = joined a6 (Lanes (spread_of s.lanes)) in
-    let a8 : Stated = joined a7 (Delays (spread_of s.delays)) in
-    line_first nothing_stated _ _ (Approach s.approach) _ (approach_line s.approach (near_number LEAST_APPROACH GREATEST_APPROACH s.approach q.approach.range (omega (arith, ints)) (omega (arith, ints)))) refl tt (not_over nothing_stated (Approach s.approach) (q.approach, tt) (zero_few nothing_stated (Approach s.approach) refl refl refl refl refl refl))
-    (line_first a1 _ _ (Wall s.wall) _ (wall_line s.wall (near_number (pos 1) GREATEST_WALL s.wall q.wall (omega (arith, ints)) (omega (arith, ints)))) refl tt (not_over a1 (Wall s.wall) (q.wall, tt) (zero_few a1 (Wall s.wall) refl refl refl refl refl refl))
-    (line_first a2 _ _ (Reach s.reach) _ (reach_line s.reach (near_number (pos 1) GREATEST_REACH s.reach (reach_held s q) (omega (arith, ints)) (omega (arith, ints)))) refl tt (not_over a2 (Reach s.reach) (reach_held s q, tt) (zero_few a2 (Reach s.reach) refl refl refl refl refl refl))
-    (line_first a3 _ _ (Corner s.corner) _ (corner_line s.corner (short_coordinate s.corner.x q.corner_x) (short_coordinate s.corner.y q.corner_y)) refl tt (not_over a3 (Corner s.corner) (q.corner_x, (q.corner_y, tt)) (zero_few a3 (Corner s.corner) refl refl refl refl refl refl))
-    (line_first a4 _ _ (Room s.room) _ (room_line s.room (near_number (pos 0) GREATEST_ROOM s.room q.room (omega (arith, ints)) (omega (arith, ints)))) refl tt (not_over a4 (Room s.room) (q.room, tt) (zero_few a4 (Room s.room) refl refl refl refl refl refl))
-    (line_first a5 _ _ (Span s.span) _ (span_line s.span (near_number (pos 0) GREATEST_SPAN s.span q.span (omega (arith, ints)) (omega (arith, ints)))) refl tt (not_over a5 (Span s.span) (q.span, tt) (zero_few a5 (Span s.span) refl refl refl refl refl refl))
-    (line_first a6 _ _ (Lanes (spread_of s.lanes)) _ (lanes_line s.lanes (lanes_short s q)) refl tt (not_over a6 (Lanes (spread_of s.lanes)) (q.lanes.low, (q.lanes.high, (len_held 1 MOST_LANES s.lanes.len q.lanes.some q.lanes.few, tt))) (zero_few a6 (Lanes (spread_of s.lanes)) refl refl refl refl refl refl))
-    (line_first a7 _ _ (Delays (spread_of s.delays)) _ (delays_line s.delays (delays_short s q)) refl tt (not_over a7 (Delays (spread_of s.delays)) (q.delays.low, (q.delays.high, (len_held 0 MOST_GAPS s.delays.len (omega arith) q.delays.few, tt))) (zero_few a7 (Delays (spread_of s.delays)) refl refl refl refl refl refl))
-    (line_first a8 _ _ (Hand (Drawn book.hand)) _ (hand_line book.hand hand h p.hand cells) refl tt (not_over a8 (Hand (Drawn book.hand)) (body_held book.hand p.hand.placed) (one_few a8 (Hand (Drawn book.hand)) (length (in_order book.hand)) refl refl refl refl refl (zero-add (length (in_order book.hand))) cells))
-    (no_lines _ _ refl)))))))))
+    let f0 : BookWord → Option (List ℤ) = λ w. None in
+    let f1 : BookWord → Option (List ℤ) = with_one f0 word.Approach (s.approach ∷ []) in
+    let f2 : BookWord → Option (List ℤ) = with_one f1 word.Wall (s.wall ∷ []) in
+    let f3 : BookWord → Option (List ℤ) = with_one f2 word.Reach (s.reach ∷ []) in
+    let f4 : BookWord → Option (List ℤ) = with_one f3 word.Corner (coordinates s.corner) in
+    let f5 : BookWord → Option (List ℤ) = with_one f4 word.Room (s.room ∷ []) in
+    let f6 : BookWord → Option (List ℤ) = with_one f5 word.Span (s.span ∷ []) in
+    let f7 : BookWord → Option (List ℤ) = with_one f6 word.Lanes (range_numbers s.lanes) in
+    let f8 : BookWord → Option (List ℤ) = with_one f7 word.Delays (range_numbers s.delays) in
+    let all : setting_numbers s ≡ f8 = λ i. λ w. each_word (λ (w : BookWord). setting_numbers s w ≡ f8 w) (refl, (refl, (refl, (refl, (refl, (refl, (refl, (refl, (refl, (refl, (refl, tt))))))))))) w i in
+    let x = short_coordinate s.corner.x q.corner_x in
+    let y = short_coordinate s.corner.y q.corner_y in
+    let low = short_coordinate s.lanes.low q.lanes.low in
+    let high = short_coordinate s.lanes.high q.lanes.high in
+    let gaps = delays_short s q in
+    setting_first f0 _ word.Approach _ _ refl (one_writable word.Approach s.approach refl (near_number LEAST_APPROACH GREATEST_APPROACH s.approach q.approach.range (omega (arith, ints)) (omega (arith, ints)))) (q.approach, tt)
+    (setting_first f1 _ word.Wall _ _ refl (one_writable word.Wall s.wall refl (near_number (pos 1) GREATEST_WALL s.wall q.wall (omega (arith, ints)) (omega (arith, ints)))) (q.wall, tt)
+    (setting_first f2 _ word.Reach _ _ refl (one_writable word.Reach s.reach refl (near_number (pos 1) GREATEST_REACH s.reach (reach_held s q) (omega (arith, ints)) (omega (arith, ints)))) (reach_held s q, tt)
+    (setting_first f3 _ word.Corner _ _ refl (record { short = (x, (y, tt)); some = lit< tt; count = refl; order = tt }) (q.corner_x, (q.corner_y, tt))
+    (setting_first f4 _ word.Room _ _ refl (one_writable word.Room s.room refl (near_number (pos 0) GREATEST_ROOM s.room q.room (omega (arith, ints)) (omega (arith, ints)))) (q.room, tt)
+    (setting_first f5 _ word.Span _ _ refl (one_writable word.Span s.span refl (near_number (pos 0) GREATEST_SPAN s.span q.span (omega (arith, ints)) (omega (arith, ints)))) (q.span, tt)
+    (setting_first f6 _ word.Lanes _ _ refl (range_writable word.Lanes s.lanes refl low high q.lanes.order q.lanes.few) (q.lanes.low, (q.lanes.high, (len_held 1 MOST_LANES s.lanes.len q.lanes.some q.lanes.few, tt)))
+    (setting_first f7 _ word.Delays _ _ refl (range_writable word.Delays s.delays refl gaps.0 gaps.1 q.delays.order (let few = q.delays.few in omega arith)) (q.delays.low, (q.delays.high, (len_held 0 MOST_GAPS s.delays.len (omega arith) q.delays.few, tt)))
+    (line_first (only f8) _ _ (Hand (Drawn book.hand)) _ (hand_line book.hand hand h p.hand cells) refl tt (not_over (only f8) (Hand (Drawn book.hand)) (body_held book.hand p.hand.placed) (one_few (only f8) (Hand (Drawn book.hand)) (length (in_order book.hand)) refl refl refl refl refl (zero-add (length (in_order book.hand))) cells))
+    (no_lines _ _ (λ i. record { settings = all i; hand = Some book.hand; kinds = []; start = None; turns = []; salvos = [] }))))))))))
 
 -- ---- kinds
 

@@ -1,6 +1,6 @@
 -- Lines, one after the other.
-use Rattle.std.proofs.Common.{◌≡◌, ℕ, zero, suc, ◌+◌, ◌<◌, List, [], ◌∷◌, ◌++◌, length, get_or, take, refl, sym, ap, ◌∙◌, subst, arith}
-use Rattle.std.specs.List.{AllByRecursion, AllZip, flat_map}
+use Rattle.std.proofs.Common.{◌≡◌, ℕ, ◌+◌, ◌<◌, List, [], ◌∷◌, ◌++◌, length, get_or, take, refl, sym, ap, ◌∙◌, subst}
+use Rattle.std.specs.List.{AllZip, flat_map}
 use Rattle.std.proofs.lemmas.List.{append_assoc, append-nil, take_more, flat_map_more}
 use Rattle.std.proofs.lemmas.List.Concat.{flat_map-append}
 use Rattle.book_write.specs.Laid.{spaced, ended_line, text_of, AppendsLine, AppendsLines}
@@ -44,12 +44,6 @@ pub line_laid : (old begun last new first : List ℕ) (groups : List (List (List
 line_laid old begun last new first groups b h e =
     let more = words_laid begun last groups h in
     e ∙ ap (λ (t : List ℕ). t ++ (10 ∷ [])) (more ∙ ap (λ (t : List ℕ). t ++ spaced (grouped groups)) b ∙ append_assoc old first (spaced (grouped groups))) ∙ append_assoc old (first ++ spaced (grouped groups)) (10 ∷ [])
-
--- what holds of each element holds of that at a place
-pub all_at : {X : Type 0} (P : X → Type 0) (xs : List X) (i : ℕ) (d : X) → AllByRecursion P xs → i < length xs → P (get_or xs i d)
-all_at P [] i d h l = absurd (omega arith)
-all_at P (x ∷ xs) zero d h l = h.0
-all_at P (x ∷ xs) (suc i) d h l = all_at P xs i d h.1 (omega arith)
 
 -- one more line, that of the element at the place
 pub lines_push : {X : Type 0} (R : X → List (List ℕ) → Type 0) (xs : List X) (i : ℕ) (d : X) (old mid new : List ℕ) → i < length xs

@@ -1,9 +1,8 @@
 -- Numbers are read from what is written for them.
-use Rattle.std.proofs.Common.{◌≡◌, ℕ, suc, ◌<◌, ◌^◌, List, [], ◌∷◌, length, map, refl, sym, ap, ◌∙◌, subst, arith, inl, inr, ℤ, pos, negsuc, neg_ℤ, ◌≤ℤ◌}
+use Rattle.std.proofs.Common.{ℕ, suc, ◌<◌, ◌^◌, List, [], ◌∷◌, length, map, refl, arith, inl, inr, ℤ, pos, negsuc, neg_ℤ, ◌≤ℤ◌}
 use Rattle.std.specs.List.{AllByRecursion, AllZip}
 use Rattle.std.specs.Fmt.{decimal, signed_decimal}
 use Rattle.std.proofs.lemmas.Int.{ints}
-use Rattle.rle_items.specs.Numbers.{IsNatural}
 use Rattle.life_rle.specs.ByteLaws.{decimal_natural, decimal_passes, small_fits}
 use Rattle.book_lines.specs.Values.{IsNumber, IsNumberAt, AreNumbersAt}
 use Rattle.book_lines.specs.Values.Level.{Whole}
@@ -31,22 +30,6 @@ number_is (negsuc n) h = inr (decimal (suc n), (suc n, (refl, (decimal_natural (
 
 pub number_at : (z : ℤ) → IsShort z → IsNumberAt Whole (signed_decimal z) z
 number_at z h = number_is z h
-
--- a text spells one number
-minus_no_digits : (digits : List ℕ) (n : ℕ) → IsNatural (45 ∷ digits) n → ⊥
-minus_no_digits digits n h = let d = h.digits.digits in cc
-
-one_natural : (text : List ℕ) (m n : ℕ) → IsNatural text m → IsNatural text n → m ≡ n
-one_natural text m n h k = sym h.is ∙ k.is
-
-pub one_number : (text : List ℕ) (y z : ℤ) → IsNumber text y → IsNumber text z → y ≡ z
-one_number text y z (inl h) (inl k) = h.1.1 ∙ ap pos (one_natural text h.0 k.0 h.1.0 k.1.0) ∙ sym k.1.1
-one_number text y z (inl h) (inr k) = absurd (minus_no_digits k.0 h.0 (subst (λ (t : List ℕ). IsNatural t h.0) k.1.1.0 h.1.0))
-one_number text y z (inr h) (inl k) = absurd (minus_no_digits h.0 k.0 (subst (λ (t : List ℕ). IsNatural t k.0) h.1.1.0 k.1.0))
-one_number text y z (inr h) (inr k) =
-    let same : h.0 ≡ k.0 = let a = h.1.1.0 in let b = k.1.1.0 in cc in
-    let n = one_natural k.0 h.1.0 k.1.0 (subst (λ (t : List ℕ). IsNatural t h.1.0) same h.1.1.1.0) k.1.1.1.0 in
-    h.1.1.1.1 ∙ ap (λ (m : ℕ). neg_ℤ (pos m)) n ∙ sym k.1.1.1.1
 
 -- lists of numbers
 pub number_words : (zs : List ℤ) → AllByRecursion IsShort zs → AllByRecursion IsWord (map signed_decimal zs)

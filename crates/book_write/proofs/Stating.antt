@@ -1,8 +1,10 @@
 -- Each written line states its part.
-use Rattle.std.proofs.Common.{◌≡◌, ℕ, ◌≤◌, ◌^◌, true, ℤ, pos, neg_ℤ, ◌≤ℤ◌, ◌-ℤ◌, List, [], ◌∷◌, ◌++◌, length, map, refl, sym, ap, ◌∙◌, subst, inl, inr, arith, lit<, lit≤, codes, Some, None, Option}
-use Rattle.std.specs.List.{AllByRecursion}
+use Rattle.std.proofs.Common.{◌≡◌, ℕ, ◌<◌, ◌≤◌, ◌^◌, nat_lt, true, ℤ, pos, neg_ℤ, ◌≤ℤ◌, ◌-ℤ◌, List, [], ◌∷◌, ◌++◌, length, map, refl, sym, ap, ◌∙◌, subst, inl, inr, arith, lit<, lit≤, codes, Some, None, Option}
+use Rattle.std.specs.List.{AllByRecursion, list_all}
 use Rattle.std.specs.Fmt.{decimal, signed_decimal}
 use Rattle.std.proofs.lemmas.Int.{ints}
+use Rattle.std.proofs.lemmas.Bool.Decides.{nat_tests}
+use Rattle.std.proofs.lemmas.List.{length-map}
 use Rattle.life_plane.specs.Plane.{Plane, shift, same_plane}
 use Rattle.life_cells.specs.declared.cell.Cell.{Cell}
 use Rattle.life_cells.specs.declared.bounds.Bounds.{Bounds}
@@ -24,26 +26,30 @@ use Rattle.book_lines.specs.declared.keyword.Keyword.{Keyword}
 use Rattle.book_lines.specs.declared.keyword.Keyword.TheVariants as first
 use Rattle.book_lines.specs.declared.statement.Body.TheVariants.{Drawn}
 use Rattle.book_lines.specs.declared.statement.Placed.{Placed}
-use Rattle.book_lines.specs.declared.statement.Spread.{Spread}
 use Rattle.book_lines.specs.declared.statement.Leaves.{Leaves}
 use Rattle.book_lines.specs.declared.statement.Leaves.TheVariants.{Close, Move, Emit}
 use Rattle.book_lines.specs.declared.statement.ElbowLine.{ElbowLine}
 use Rattle.book_lines.specs.declared.statement.TurnLine.{TurnLine}
 use Rattle.book_lines.specs.declared.statement.SalvoLine.{SalvoLine}
 use Rattle.book_lines.specs.declared.statement.Statement.{Statement}
-use Rattle.book_lines.specs.declared.statement.Statement.TheVariants.{Approach, Wall, Reach, Corner, Room, Span, Lanes, Delays, Hand, Elbow, Start, Turn, Salvo}
+use Rattle.book_lines.specs.declared.statement.Statement.TheVariants.{Setting, Hand, Elbow, Start, Turn, Salvo}
 use Rattle.book_lines.specs.Values.{IsBodyAt}
 use Rattle.book_lines.specs.Values.Level.{Whole}
-use Rattle.book_lines.specs.Forms.{IsOneNumber, IsPair, IsSpread, IsBody, IsPlacedBody, IsElbowLine, IsStep, IsEnding, IsProduct, IsHand, IsSalvoLine as IsSalvoForm}
-use Rattle.book_lines.specs.Statements.{spelling, keyword, ItemsState, States}
+use Rattle.book_lines.specs.Forms.{KeepsOrder, IsPair, IsBody, IsPlacedBody, IsElbowLine, IsStep, IsEnding, IsProduct, IsHand, IsSalvoLine as IsSalvoForm}
+use Rattle.book_lines.specs.declared.book_word.BookWord.{BookWord}
+use Rattle.book_lines.specs.Words.{word_text, spelling}
+use Rattle.book_lines.specs.WordLaws.{each_passes}
+use Rattle.book_lines.specs.Limits.{limits}
+use Rattle.book_lines.specs.NumberLaws.{one_number}
+use Rattle.book_lines.specs.Statements.{keyword, ItemsState, States}
 use Rattle.book_lines.specs.Counts.{product_count}
-use Rattle.book_read.specs.Stated.{product_of}
+use Rattle.book_read.specs.Stated.{range_numbers, product_of}
 use Rattle.book_read.specs.Limited.{placed_numbers, product_numbers}
 use Rattle.book_write.specs.Laid.{spaced, line_of}
-use Rattle.book_write.specs.Parts.{place_words, range_words, IsHandLine, IsPlacedText, IsKindLine, kind_name, step_words, ending_words, turn_words, IsProductText, hand_words, IsSalvoLine}
-use Rattle.book_write.proofs.Visible.{IsWord, name_word}
+use Rattle.book_write.specs.Parts.{place_words, setting_line, IsHandLine, IsPlacedText, IsKindLine, kind_name, step_words, ending_words, turn_words, IsProductText, hand_words, IsSalvoLine}
+use Rattle.book_write.proofs.Visible.{is_visible, IsWord, name_word}
 use Rattle.book_write.proofs.Splitting.{words_are, begins_late, not_passed_over}
-use Rattle.book_write.proofs.Numerals.{IsShort, short_from, number_word, number_is, number_at, one_number, number_words, numbers_at}
+use Rattle.book_write.proofs.Numerals.{IsShort, short_from, number_word, number_is, number_at, number_words, numbers_at}
 use Rattle.book_write.proofs.Moving.{near_box, moved_range, range_placed}
 use Rattle.book_write.proofs.BodyWords.{IsReadBody, word_reads_back}
 use Rattle.book_write.proofs.Within.{IsHeld, body_held}
@@ -52,33 +58,19 @@ use Rattle.book_parts.specs.declared.limits.TheConstants.{MOST_CELLS, LONGEST_TU
 
 -- ---- a line and its words
 
+some_test : (n : ℕ) → nat_lt 0 n ≡ true → 0 < n
+some_test n e = grind (arith, nat_tests)
+
 keyword_word : (k : Keyword) → IsWord (spelling k)
-keyword_word first.Approach = record { some = lit< tt; bytes = refl }
-keyword_word first.Wall = record { some = lit< tt; bytes = refl }
-keyword_word first.Reach = record { some = lit< tt; bytes = refl }
-keyword_word first.Corner = record { some = lit< tt; bytes = refl }
-keyword_word first.Room = record { some = lit< tt; bytes = refl }
-keyword_word first.Span = record { some = lit< tt; bytes = refl }
-keyword_word first.Lanes = record { some = lit< tt; bytes = refl }
-keyword_word first.Delays = record { some = lit< tt; bytes = refl }
-keyword_word first.Hand = record { some = lit< tt; bytes = refl }
-keyword_word first.Elbow = record { some = lit< tt; bytes = refl }
-keyword_word first.Start = record { some = lit< tt; bytes = refl }
+keyword_word (first.Book w) = record {
+  some = some_test (length (word_text w)) (each_passes (λ (w : BookWord). nat_lt 0 (length (word_text w))) refl w);
+  bytes = each_passes (λ (w : BookWord). list_all is_visible (word_text w)) refl w;
+}
 keyword_word first.Turn = record { some = lit< tt; bytes = refl }
 keyword_word first.Salvo = record { some = lit< tt; bytes = refl }
 
 keyword_late : (k : Keyword) → begins_late (spelling k) ≡ true
-keyword_late first.Approach = refl
-keyword_late first.Wall = refl
-keyword_late first.Reach = refl
-keyword_late first.Corner = refl
-keyword_late first.Room = refl
-keyword_late first.Span = refl
-keyword_late first.Lanes = refl
-keyword_late first.Delays = refl
-keyword_late first.Hand = refl
-keyword_late first.Elbow = refl
-keyword_late first.Start = refl
+keyword_late (first.Book w) = each_passes (λ (w : BookWord). begins_late (word_text w)) refl w
 keyword_late first.Turn = refl
 keyword_late first.Salvo = refl
 
@@ -97,68 +89,30 @@ line_for s items h e = record {
 
 -- ---- settings
 
-one_is : (z : ℤ) → IsShort z → IsOneNumber Whole z (signed_decimal z ∷ [])
-one_is z h = record { text = signed_decimal z; items_are = refl; number = number_at z h }
+-- numbers that a setting's line may have
+pub record AreWritable (w : BookWord) (zs : List ℤ) : Type 0 where
+  pub short : AllByRecursion IsShort zs
+  pub some : 0 < length zs
+  pub count : length zs ≡ length (limits w)
+  pub order : KeepsOrder (map signed_decimal zs)
 
-pub approach_line : (z : ℤ) → IsShort z → IsLineFor (codes "approach" ∷ (signed_decimal z ∷ [])) (Approach z)
-approach_line z h = line_for (Approach z) (signed_decimal z ∷ []) (number_word z h, tt) (one_is z h)
+pub setting_line_for : (w : BookWord) (zs : List ℤ) → AreWritable w zs → IsLineFor (setting_line w zs) (Setting (record { word = w; numbers = zs }))
+setting_line_for w zs h =
+    line_for (Setting (record { word = w; numbers = zs })) (map signed_decimal zs) (number_words zs h.short)
+    (record { numbers_are = numbers_at zs h.short h.some; count = length-map zs signed_decimal ∙ h.count; order = h.order })
 
-pub wall_line : (z : ℤ) → IsShort z → IsLineFor (codes "wall" ∷ (signed_decimal z ∷ [])) (Wall z)
-wall_line z h = line_for (Wall z) (signed_decimal z ∷ []) (number_word z h, tt) (one_is z h)
-
-pub reach_line : (z : ℤ) → IsShort z → IsLineFor (codes "reach" ∷ (signed_decimal z ∷ [])) (Reach z)
-reach_line z h = line_for (Reach z) (signed_decimal z ∷ []) (number_word z h, tt) (one_is z h)
-
-pub room_line : (z : ℤ) → IsShort z → IsLineFor (codes "room" ∷ (signed_decimal z ∷ [])) (Room z)
-room_line z h = line_for (Room z) (signed_decimal z ∷ []) (number_word z h, tt) (one_is z h)
-
-pub span_line : (z : ℤ) → IsShort z → IsLineFor (codes "span" ∷ (signed_decimal z ∷ [])) (Span z)
-span_line z h = line_for (Span z) (signed_decimal z ∷ []) (number_word z h, tt) (one_is z h)
+-- LOW and HIGH of a range are in order
+pub range_order : (range : Range) → IsShort range.low → IsShort range.high → range.low ≤ℤ range.high → KeepsOrder (map signed_decimal (range_numbers range))
+range_order range short_low short_high order low high g k =
+    let a = one_number (signed_decimal range.low) low range.low g (number_is range.low short_low) in
+    let b = one_number (signed_decimal range.high) high range.high k (number_is range.high short_high) in
+    omega (arith, ints)
 
 pair_is : (c : Cell) → IsShort c.x → IsShort c.y → IsPair Whole c (place_words c)
 pair_is c x y = record { text_x = signed_decimal c.x; text_y = signed_decimal c.y; items_are = refl; number_x = number_at c.x x; number_y = number_at c.y y }
 
 place_each : (c : Cell) → IsShort c.x → IsShort c.y → AllByRecursion IsWord (place_words c)
 place_each c x y = (number_word c.x x, (number_word c.y y, tt))
-
-pub corner_line : (c : Cell) → IsShort c.x → IsShort c.y → IsLineFor (codes "corner" ∷ place_words c) (Corner c)
-corner_line c x y = line_for (Corner c) (place_words c) (place_each c x y) (pair_is c x y)
-
--- a range, as a line spreads it
-abbrev pub spread_of : Range → Spread
-spread_of range = record { low = range.low; high = range.high; len = pos range.len }
-
--- a range whose numbers are short, in order
-pub record IsShortRange (range : Range) : Type 0 where
-  pub low : IsShort range.low
-  pub high : IsShort range.high
-  pub len : IsShort (pos range.len)
-  pub order : range.low ≤ℤ range.high
-
-spread_is : (range : Range) → IsShortRange range → IsSpread Whole (spread_of range) (range_words range)
-spread_is range h = record {
-  text_low = signed_decimal range.low;
-  text_high = signed_decimal range.high;
-  text_len = decimal range.len;
-  items_are = refl;
-  number_low = number_at range.low h.low;
-  number_high = number_at range.high h.high;
-  number_len = number_at (pos range.len) h.len;
-  order = λ low high g k.
-      let a = one_number (signed_decimal range.low) low range.low g (number_is range.low h.low) in
-      let b = one_number (signed_decimal range.high) high range.high k (number_is range.high h.high) in
-      let o = h.order in
-      omega (arith, ints);
-}
-
-range_each : (range : Range) → IsShortRange range → AllByRecursion IsWord (range_words range)
-range_each range h = (number_word range.low h.low, (number_word range.high h.high, (number_word (pos range.len) h.len, tt)))
-
-pub lanes_line : (range : Range) → IsShortRange range → IsLineFor (codes "lanes" ∷ range_words range) (Lanes (spread_of range))
-lanes_line range h = line_for (Lanes (spread_of range)) (range_words range) (range_each range h) (spread_is range h)
-
-pub delays_line : (range : Range) → IsShortRange range → IsLineFor (codes "delays" ∷ range_words range) (Delays (spread_of range))
-delays_line range h = line_for (Delays (spread_of range)) (range_words range) (range_each range h) (spread_is range h)
 
 pub short_coordinate : (z : ℤ) → IsCoordinate z → IsShort z
 short_coordinate z h = let low = h.low in let high = h.high in short_from z (omega (arith, ints)) (omega (arith, ints))

@@ -10,9 +10,10 @@ use Rattle.life_cells.specs.PlaceLaws.{each_listed}
 use Rattle.book_parts.specs.Limits.{IsCoordinate, IsPlaced}
 use Rattle.book_lines.specs.declared.statement.Statement.{Statement}
 use Rattle.book_lines.specs.Counts.{delay_count, lane_count, cell_count}
-use Rattle.book_read.specs.declared.limit.Limit.{Limit}
+use Rattle.book_lines.specs.declared.limit.Limit.{Limit}
+use Rattle.book_lines.specs.Limits.{IsWithin}
 use Rattle.book_read.specs.Stated.{Stated, joined}
-use Rattle.book_read.specs.Limited.{IsWithin, Limited, held, cell_numbers, numbers, counts, stated_cells, IsFirstOutside, IsOver}
+use Rattle.book_read.specs.Limited.{Limited, held, cell_numbers, numbers, counts, stated_cells, IsFirstOutside, IsOver}
 use Rattle.life_plane.specs.ListLaws.{all_append}
 use Rattle.book_parts.specs.declared.limits.TheConstants.{MOST_CELLS, MOST_DELAYS, MOST_KINDS, MOST_LANES, MOST_SALVOS, MOST_TURNS}
 

@@ -9,12 +9,15 @@ use Rattle.life_cells.specs.declared.cell.Cell.{Cell}
 use Rattle.life_cells.specs.declared.bounds.Bounds.{Bounds}
 use Rattle.life_rle.specs.Written.{IsBodyText}
 use Rattle.book_parts.specs.declared.settings.Settings.{Settings}
-use Rattle.book_parts.specs.declared.settings.Range.{Range}
 use Rattle.book_parts.specs.declared.kind.RawKind.{RawKind}
 use Rattle.book_parts.specs.declared.turn.RawTurn.{RawTurn}
 use Rattle.book_parts.specs.declared.turn.TurnEnd.{TurnEnd}
 use Rattle.book_parts.specs.declared.turn.TurnEnd.TheVariants.{Close, Move, Emit}
 use Rattle.book_parts.specs.declared.salvo.RawSalvo.{RawSalvo}
+use Rattle.book_lines.specs.declared.book_word.BookWord.{BookWord}
+use Rattle.book_lines.specs.declared.book_word.BookWord.TheVariants as word
+use Rattle.book_lines.specs.Words.{word_text}
+use Rattle.book_read.specs.Stated.{coordinates, range_numbers}
 
 -- `scbook 1`
 abbrev pub version_words : List (List ℕ)
@@ -24,21 +27,21 @@ version_words = codes "scbook" ∷ (codes "1" ∷ [])
 abbrev pub place_words : Cell → List (List ℕ)
 place_words c = signed_decimal c.x ∷ (signed_decimal c.y ∷ [])
 
--- `LOW HIGH LEN`
-abbrev pub range_words : Range → List (List ℕ)
-range_words range = signed_decimal range.low ∷ (signed_decimal range.high ∷ (decimal range.len ∷ []))
+-- the line of a setting: its word and its numbers
+abbrev pub setting_line : BookWord → List ℤ → List (List ℕ)
+setting_line word numbers = word_text word ∷ map signed_decimal numbers
 
 -- the lines of the settings, but for the hand
 abbrev pub settings_words : Settings → List (List (List ℕ))
 settings_words s =
-    (codes "approach" ∷ (signed_decimal s.approach ∷ []))
-    ∷ ((codes "wall" ∷ (signed_decimal s.wall ∷ []))
-    ∷ ((codes "reach" ∷ (signed_decimal s.reach ∷ []))
-    ∷ ((codes "corner" ∷ place_words s.corner)
-    ∷ ((codes "room" ∷ (signed_decimal s.room ∷ []))
-    ∷ ((codes "span" ∷ (signed_decimal s.span ∷ []))
-    ∷ ((codes "lanes" ∷ range_words s.lanes)
-    ∷ ((codes "delays" ∷ range_words s.delays) ∷ [])))))))
+    setting_line word.Approach (s.approach ∷ [])
+    ∷ (setting_line word.Wall (s.wall ∷ [])
+    ∷ (setting_line word.Reach (s.reach ∷ [])
+    ∷ (setting_line word.Corner (coordinates s.corner)
+    ∷ (setting_line word.Room (s.room ∷ [])
+    ∷ (setting_line word.Span (s.span ∷ [])
+    ∷ (setting_line word.Lanes (range_numbers s.lanes)
+    ∷ (setting_line word.Delays (range_numbers s.delays) ∷ [])))))))
 
 -- a body word of what lives, as it lies
 pub record IsBodyWord (s : Plane) (words : List (List ℕ)) : Type 0 where

@@ -1,14 +1,14 @@
 //! The lines of the settings.
 
-ghost use Rattle.std.specs.Prelude.{◌≡◌, ◌++◌, ◌∷◌, [], OnOk};
-ghost use Rattle.std.specs.Fmt.{signed_decimal};
+ghost use Rattle.std.specs.Prelude.{◌≡◌, ◌++◌, OnOk};
 ghost use Rattle.book_write.specs.Laid.{ended_line, text_of};
-ghost use Rattle.book_write.specs.Parts.{place_words, range_words, version_words, settings_words};
+ghost use Rattle.book_read.specs.Stated.{range_numbers};
+ghost use Rattle.book_write.specs.Parts.{version_words, setting_line, settings_words};
 
-use crate::bodies::push_place;
-use crate::words::{begin_line, end_line, push_count, push_number, push_word};
+use crate::words::{begin_line, end_line, push_numbers, push_word};
 use book_parts::{Range, Settings};
-use life_cells::{Cell, NoMemory};
+use book_read::BookWord;
+use life_cells::NoMemory;
 
 /// Appends the line of the version.
 pub fn push_version(text: &mut Vec<u8>) -> Result<(), NoMemory>
@@ -19,49 +19,38 @@ pub fn push_version(text: &mut Vec<u8>) -> Result<(), NoMemory>
     end_line(text)
 }
 
-/// Appends the line of a setting that is a number.
-fn push_setting(text: &mut Vec<u8>, word: &str, number: i64) -> Result<(), NoMemory>
-    ensures { OnOk result (text.new.items ≡ text.old.items ++ ended_line (word.now ∷ (signed_decimal number ∷ []))) }
+/// Appends the line of a setting.
+fn push_setting(text: &mut Vec<u8>, word: BookWord, numbers: &[i64]) -> Result<(), NoMemory>
+    ensures { OnOk result (text.new.items ≡ text.old.items ++ ended_line (setting_line word numbers.now)) }
 {
-    begin_line(text, word)?;
-    push_number(text, number)?;
-    end_line(text)?;
-    Ok(())
-}
-
-/// Appends the line of a setting that is a place.
-fn push_corner(text: &mut Vec<u8>, word: &str, place: Cell) -> Result<(), NoMemory>
-    ensures { OnOk result (text.new.items ≡ text.old.items ++ ended_line (word.now ∷ place_words place)) }
-{
-    begin_line(text, word)?;
-    push_place(text, place)?;
+    begin_line(text, word.text())?;
+    push_numbers(text, numbers)?;
     end_line(text)?;
     Ok(())
 }
 
 /// Appends the line of a setting that is a range.
-fn push_range(text: &mut Vec<u8>, word: &str, range: Range) -> Result<(), NoMemory>
-    ensures { OnOk result (text.new.items ≡ text.old.items ++ ended_line (word.now ∷ range_words range)) }
+fn push_range(text: &mut Vec<u8>, word: BookWord, range: Range) -> Result<(), NoMemory>
+    ensures { OnOk result (text.new.items ≡ text.old.items ++ ended_line (setting_line word (range_numbers range))) }
 {
-    begin_line(text, word)?;
-    push_number(text, range.low)?;
-    push_number(text, range.high)?;
-    push_count(text, range.len)?;
-    end_line(text)?;
-    Ok(())
+    push_setting(text, word, &[range.low, range.high, i64::from(range.len)])
 }
 
 /// Appends the lines of the settings, but for the hand.
 pub fn push_settings(text: &mut Vec<u8>, settings: &Settings) -> Result<(), NoMemory>
     ensures { OnOk result (text.new.items ≡ text.old.items ++ text_of (settings_words settings.now)) }
 {
-    push_setting(text, "approach", settings.approach)?;
-    push_setting(text, "wall", settings.wall)?;
-    push_setting(text, "reach", settings.reach)?;
-    push_corner(text, "corner", settings.corner)?;
-    push_setting(text, "room", settings.room)?;
-    push_setting(text, "span", settings.span)?;
-    push_range(text, "lanes", settings.lanes)?;
-    push_range(text, "delays", settings.delays)?;
+    push_setting(text, BookWord::Approach, &[settings.approach])?;
+    push_setting(text, BookWord::Wall, &[settings.wall])?;
+    push_setting(text, BookWord::Reach, &[settings.reach])?;
+    push_setting(
+        text,
+        BookWord::Corner,
+        &[settings.corner.x, settings.corner.y],
+    )?;
+    push_setting(text, BookWord::Room, &[settings.room])?;
+    push_setting(text, BookWord::Span, &[settings.span])?;
+    push_range(text, BookWord::Lanes, settings.lanes)?;
+    push_range(text, BookWord::Delays, settings.delays)?;
     Ok(())
 }

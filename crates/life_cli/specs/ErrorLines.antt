@@ -9,7 +9,7 @@ use Rattle.life_io.specs.Sinks.{AppendsPrefix}
 use Rattle.life_rle.specs.declared.error.RleError as rle
 use Rattle.book_read.specs.declared.error.BookError as book
 use Rattle.book_lines.specs.declared.fault.LineFault as fault
-use Rattle.book_read.specs.declared.error.BookWord as setting
+use Rattle.book_lines.specs.Words.{word_text}
 use Rattle.life_cli.specs.declared.words.WordsError as words
 use Rattle.life_cli.specs.declared.status.Which.{Which}
 use Rattle.life_cli.specs.declared.status.Which.TheVariants.{Book, Target, Pattern}
@@ -55,26 +55,13 @@ fault_text fault.TheVariants.Number = codes "number"
 fault_text fault.TheVariants.Body = codes "body"
 fault_text fault.TheVariants.Empty = codes "empty"
 
-abbrev pub setting_text : setting.BookWord → List ℕ
-setting_text setting.TheVariants.Approach = codes "approach"
-setting_text setting.TheVariants.Wall = codes "wall"
-setting_text setting.TheVariants.Reach = codes "reach"
-setting_text setting.TheVariants.Corner = codes "corner"
-setting_text setting.TheVariants.Room = codes "room"
-setting_text setting.TheVariants.Span = codes "span"
-setting_text setting.TheVariants.Lanes = codes "lanes"
-setting_text setting.TheVariants.Delays = codes "delays"
-setting_text setting.TheVariants.Hand = codes "hand"
-setting_text setting.TheVariants.Elbow = codes "elbow"
-setting_text setting.TheVariants.Start = codes "start"
-
 -- what is wrong with a book's text; the last is no text of a status
 abbrev pub book_text : book.BookError → List ℕ
 book_text (book.TheVariants.BadLine line why) = codes "line " ++ (decimal line ++ (codes " " ++ fault_text why))
 book_text (book.TheVariants.Doubled line) = codes "doubled " ++ decimal line
 book_text (book.TheVariants.UnknownKind line) = codes "kind " ++ decimal line
 book_text (book.TheVariants.LimitOver line number) = codes "limit " ++ (decimal line ++ (codes " " ++ signed_decimal number))
-book_text (book.TheVariants.Missing word) = codes "missing " ++ setting_text word
+book_text (book.TheVariants.Missing word) = codes "missing " ++ word_text word
 book_text (book.TheVariants.WallReach wall reach) = codes "reach " ++ (signed_decimal wall ++ (codes " " ++ signed_decimal reach))
 book_text book.TheVariants.Memory = codes "memory"
 

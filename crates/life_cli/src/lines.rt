@@ -2,11 +2,11 @@
 
 ghost use Rattle.std.specs.Prelude.{◌≡◌, IfOk};
 ghost use Rattle.std.specs.String.{string_bytes};
-ghost use Rattle.life_cli.specs.ErrorLines.{which_text, words_text, rle_text, fault_text, setting_text, book_text, target_text, refusal_text, plan_text, status_text, error_line};
+ghost use Rattle.life_cli.specs.ErrorLines.{which_text, words_text, rle_text, fault_text, book_text, target_text, refusal_text, plan_text, status_text, error_line};
 
 use crate::status::{Status, Which};
 use crate::words::WordsError;
-use book_text::{BookError, BookWord, LineFault};
+use book_text::{BookError, LineFault};
 use life_rle::RleError;
 use life_target::TargetError;
 use recipe_book::BookRefusal;
@@ -64,24 +64,6 @@ fn fault_text(fault: LineFault) -> &'static str
     }
 }
 
-fn setting_text(word: BookWord) -> &'static str
-    ensures { result.now ≡ setting_text word }
-{
-    match word {
-        BookWord::Approach => "approach",
-        BookWord::Wall => "wall",
-        BookWord::Reach => "reach",
-        BookWord::Corner => "corner",
-        BookWord::Room => "room",
-        BookWord::Span => "span",
-        BookWord::Lanes => "lanes",
-        BookWord::Delays => "delays",
-        BookWord::Hand => "hand",
-        BookWord::Elbow => "elbow",
-        BookWord::Start => "start",
-    }
-}
-
 fn book_text(alloc: Global, fault: BookError) -> Result<String, AllocError>
     ensures { IfOk result (λ text. string_bytes text ≡ book_text fault) }
 {
@@ -94,7 +76,7 @@ fn book_text(alloc: Global, fault: BookError) -> Result<String, AllocError>
         BookError::UnknownKind { line } => format!(in alloc; "kind {line}"),
         BookError::LimitOver { line, number } => format!(in alloc; "limit {line} {number}"),
         BookError::Missing { word } => {
-            let word = setting_text(word);
+            let word = word.text();
             format!(in alloc; "missing {word}")
         }
         BookError::WallReach { wall, reach } => format!(in alloc; "reach {wall} {reach}"),

@@ -4,7 +4,7 @@ use mir.Syntax.{w64}
 use Rattle.std.proofs.Common.{FitsSigned}
 use Rattle.std.proofs.lemmas.Int.{to_z-of_z}
 use Rattle.book_read.specs.Limited.{held}
-use Rattle.book_read.specs.declared.limit.Limit.TheVariants as limit
+use Rattle.book_lines.specs.declared.limit.Limit.TheVariants as limit
 use Rattle.book_read.proofs.FirstOutside.{first_append}
 
 pub returns-in-Emit : goal.returns-in-Emit

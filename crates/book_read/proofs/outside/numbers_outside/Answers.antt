@@ -4,7 +4,8 @@ use mir.Syntax.{w64}
 use Rattle.std.proofs.Common.{FitsSigned, get_or, pos}
 use Rattle.std.proofs.lemmas.Int.{to_z-of_z}
 use Rattle.std.proofs.lemmas.Bool.{false≢true}
-use Rattle.book_read.specs.Limited.{held, IsWithin, IsFirstOutside}
+use Rattle.book_lines.specs.Limits.{IsWithin}
+use Rattle.book_read.specs.Limited.{held, IsFirstOutside}
 use Rattle.book_read.proofs.FirstOutside.{first_more, first_found_at, one_each}
 use Rattle.std.proofs.lemmas.List.{take_all}
 

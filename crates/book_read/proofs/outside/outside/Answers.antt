@@ -3,7 +3,7 @@ use Rattle.book_read.proofs.outside.outside.Goals as goal
 use mir.Syntax.{w64}
 use Rattle.std.proofs.lemmas.Int.{to_z-of_z}
 use Rattle.std.proofs.lemmas.Bool.{false≢true}
-use Rattle.book_read.specs.Limited.{IsWithin}
+use Rattle.book_lines.specs.Limits.{IsWithin}
 
 pub returns-then-holds : goal.returns-then-holds
 returns-then-holds c = inl (rw (to_z-of_z w64 c.args.number c.ranges.number) at (c.holds.ensures.0 c.if-holds.true), refl)

@@ -1,7 +1,7 @@
 use Rattle.std.proofs.Common.{ℤ, List, ◌++◌, subst, map}
 use Rattle.book_read.proofs.outside.salvo_outside.Goals as goal
 use Rattle.book_read.specs.Limited.{held, product_numbers, place_numbers, IsFirstOutside}
-use Rattle.book_read.specs.declared.limit.Limit.TheVariants as limit
+use Rattle.book_lines.specs.declared.limit.Limit.TheVariants as limit
 use Rattle.book_read.proofs.FirstOutside.{first_append}
 
 pub returns : goal.returns

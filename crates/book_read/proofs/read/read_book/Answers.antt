@@ -1,14 +1,9 @@
 use Rattle.book_read.proofs.read.read_book.Goals as goal
 use Rattle.std.specs.Str.Lines.{lines}
-use Rattle.book_read.specs.Stated.{nothing_stated}
 use Rattle.book_read.specs.Book.{StopsWith}
 use Rattle.book_read.specs.Drafted.{stated_of}
-use Rattle.book_read.proofs.Sound.{no_settings, settings_fine}
 use Rattle.book_read.proofs.Refusing.{err_is}
 use Rattle.book_read.proofs.Finishing.{begun_refused, draft_refused, read_of, finished_err, finished_ok, finished_proper}
-
-pub book_of-requires : goal.book_of-requires
-book_of-requires c = (settings_fine nothing_stated (lines c.in_ok-begun.begun.body.now) (stated_of c.in_ok-draft.draft) no_settings c.in_ok-draft.ensures.fine).wall
 
 pub returns-in_err-begun-clause-err : goal.returns-in_err-begun-clause-err
 returns-in_err-begun-clause-err c =
