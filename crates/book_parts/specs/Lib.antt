@@ -3,3 +3,6 @@ pub mod Limits
 pub mod Said
 pub mod Proper
 pub mod Kinds
+pub mod KindLaws
+pub mod LimitLaws
+pub mod ListLaws

@@ -6,19 +6,12 @@ use Rattle.std.proofs.lemmas.List.Folds.{list_any_more}
 use Rattle.std.proofs.lemmas.Bool.{or_cases}
 use Rattle.life_cells.specs.declared.cell.Cell.{Cell}
 use Rattle.life_cells.specs.Cells.{cell, Cells, in_order, alive}
-use Rattle.life_cells.specs.Boxes.{IsInRange, IsCellInRange}
 use Rattle.life_cells.specs.Laws.{alive_of_order}
 use Rattle.life_cells.specs.PlaceLaws.{live_at}
 use Rattle.life_cells.specs.Listed.{same_cell, listed}
 use Rattle.life_cells.specs.OrderLaws.{same_cell_is}
 use Rattle.life_plane.specs.Plane.{Plane}
 use Rattle.life_plane.specs.Strips.{Each}
-
--- the cell at a place is in range
-pub place_in_range : (n : ℕ) (cs : List Cell) (s : Cells) (i : ℕ) (d : Cell) → IsInRange n (alive s) → cs ≡ in_order s → i < length cs → IsCellInRange n (get_or cs i d)
-place_in_range n cs s i d range e lt =
-    let live = live_at s cs e i d lt in
-    record { x_low = range.x_low _ _ live; x_high = range.x_high _ _ live; y_low = range.y_low _ _ live; y_high = range.y_high _ _ live }
 
 -- one cell more
 pub each_more : (P : ℤ → ℤ → Type 0) (cs : List Cell) (i : ℕ) (d : Cell) → i < length cs → P (get_or cs i d).x (get_or cs i d).y → Each P (listed (take i cs)) → Each P (listed (take (i + 1) cs))

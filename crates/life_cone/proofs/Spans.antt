@@ -10,6 +10,7 @@ use Rattle.life_cells.specs.Boxes.{Holds}
 use Rattle.life_cells.specs.declared.bounds.Bounds.{Bounds}
 use Rattle.life_cone.specs.declared.boxes.Span.{Span}
 use Rattle.life_cone.specs.FarBoxes.{AreFarBoxes, AreFarSpans, InSpan}
+use Rattle.std.proofs.lemmas.Bool.{false≢true}
 
 -- a number of the one span within 2 of a number of the other
 pub record AreNearSpans (a b : Span) : Type 0 where
@@ -63,16 +64,13 @@ spans_test a b false false true t4 h1 h2 h3 h4 = (λ _. before_is_far a b (h3.0 
 spans_test a b false false false true h1 h2 h3 h4 = (λ _. after_is_far a b (h4.0 refl), λ _. refl)
 spans_test a b false false false false h1 h2 h3 h4 =
     let n = near_spans a b (not_less h1) (not_less h2) (not_most h3) (not_most h4) in
-    (λ h. absurd (not_both h), λ h. absurd (h.far n.x n.p n.in_a n.in_b n.up n.down))
+    (λ h. absurd (false≢true h), λ h. absurd (h.far n.x n.p n.in_a n.in_b n.up n.down))
   where
-    not_both : false ≡ true → ⊥
-    not_both h = cc
-
     not_less : {m n : ℤ} → (IsTrue false ↔ (m <ℤ n)) → n ≤ℤ m
-    not_less {m} {n} h = elim (cases_below m n) [ inl k ↦ absurd (not_both (h.1 k)) | inr k ↦ k ]
+    not_less {m} {n} h = elim (cases_below m n) [ inl k ↦ absurd (false≢true (h.1 k)) | inr k ↦ k ]
 
     not_most : {m n : ℤ} → (IsTrue false ↔ (m ≤ℤ n)) → n <ℤ m
-    not_most {m} {n} h = elim (cases_below n m) [ inl k ↦ k | inr k ↦ absurd (not_both (h.1 k)) ]
+    not_most {m} {n} h = elim (cases_below n m) [ inl k ↦ k | inr k ↦ absurd (false≢true (h.1 k)) ]
 
 -- spans apart by their columns or by their rows keep boxes apart
 pub far_columns : (a b : Bounds) → AreFarSpans (record { low = a.left; high = a.right }) (record { low = b.left; high = b.right }) → AreFarBoxes a b
@@ -93,15 +91,12 @@ either_test : (a b : Bounds) (t u : Bool) → (IsTrue t ↔ AreFarSpans (record 
     (IsTrue u ↔ AreFarSpans (record { low = a.top; high = a.bottom }) (record { low = b.top; high = b.bottom })) → IsTrue (t || u) ↔ AreFarBoxes a b
 either_test a b true u h k = (λ _. far_columns a b (h.0 refl), λ _. refl)
 either_test a b false true h k = (λ _. far_rows a b (k.0 refl), λ _. refl)
-either_test a b false false h k = (λ p. absurd (not_both p), λ far. absurd (decide far (spans_decide _ _) (spans_decide _ _)))
+either_test a b false false h k = (λ p. absurd (false≢true p), λ far. absurd (decide far (spans_decide _ _) (spans_decide _ _)))
   where
-    not_both : false ≡ true → ⊥
-    not_both h = cc
-
     decide : AreFarBoxes a b → AreFarSpans (record { low = a.left; high = a.right }) (record { low = b.left; high = b.right }) ⊎ AreNearSpans (record { low = a.left; high = a.right }) (record { low = b.left; high = b.right }) →
         AreFarSpans (record { low = a.top; high = a.bottom }) (record { low = b.top; high = b.bottom }) ⊎ AreNearSpans (record { low = a.top; high = a.bottom }) (record { low = b.top; high = b.bottom }) → ⊥
-    decide far (inl p) q = not_both (h.1 p)
-    decide far (inr p) (inl q) = not_both (k.1 q)
+    decide far (inl p) q = false≢true (h.1 p)
+    decide far (inr p) (inl q) = false≢true (k.1 q)
     decide far (inr p) (inr q) = near_boxes a b p q far
 
 -- the tests of boxes, both

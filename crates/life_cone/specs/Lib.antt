@@ -1,3 +1,4 @@
 -- What keeps two planes apart.
 pub mod FarBoxes
 pub mod Sides
+pub mod CellLaws

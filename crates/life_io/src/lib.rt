@@ -1,5 +1,6 @@
 //! Where texts come from and where they go: depots and sinks as traits with meanings, the ones in
-//! memory that fail when they are told to, and the ones over files and the standard streams.
+//! memory that fail when they are told to, and the ones over files and the standard streams. And a
+//! program's words.
 #![tactic(auto)]
 
 mod bytes;
@@ -12,6 +13,7 @@ mod mem_sink;
 mod reading;
 mod sink;
 mod texts;
+mod words;
 mod writing;
 
 pub use depot::{Depot, FetchError};
@@ -20,6 +22,7 @@ pub use host_sink::HostSink;
 pub use mem_depot::{MemDepot, NamedText};
 pub use mem_sink::{MemSink, PutFail};
 pub use sink::{PutError, Sink};
+pub use words::{NO_MEMORY, NO_WORDS, words_of};
 
 #[cfg(test)]
 mod tests;

@@ -1,3 +1,3 @@
 -- Lemmas on targets.
-pub mod Sides
+pub mod NoCells
 pub mod OneRefusal

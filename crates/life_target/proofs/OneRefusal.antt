@@ -1,12 +1,10 @@
 -- A target has no refusal, and a set of cells has one at most.
-use Rattle.std.proofs.Common.{◌≡◌, ◌≢◌, ℕ, ◌≤◌, ◌<◌, true, false, pos, refl, sym, ap, subst, ◌∙◌, ◌⊎◌, inl, inr, arith, List, length}
+use Rattle.std.proofs.Common.{◌≡◌, ◌≢◌, ℕ, ◌≤◌, ◌<◌, true, false, pos, refl, sym, ap, ◌∙◌, inl, inr, arith, List, length}
 use Rattle.std.proofs.lemmas.Int.{ints}
 use Rattle.std.specs.Int.{int_max}
-use Rattle.life_plane.specs.Plane.{Plane, IsStill, nothing}
-use Rattle.life_cells.specs.declared.cell.Cell.{Cell}
+use Rattle.life_plane.specs.Plane.{Plane, nothing}
 use Rattle.life_cells.specs.declared.bounds.Bounds.{Bounds}
 use Rattle.life_cells.specs.BoxLaws.{one_least_box}
-use Rattle.life_cells.specs.Firsts.{IsFirstChange}
 use Rattle.life_cells.specs.FirstLaws.{one_first}
 use Rattle.life_islands.specs.Islands.{AreIslands}
 use Rattle.life_islands.specs.declared.island.Island.{Island}
@@ -33,10 +31,6 @@ narrow_clash : (s : Plane) (side : ℕ) → IsNarrow s → HasSide s side → mo
 narrow_clash s side (inl e) h over = nothing_has_no_side s side e h
 narrow_clash s side (inr (other, (k, few))) h over = let same = one_side s side other h k in absurd (omega arith)
 
--- what is still doesn't change
-still_clash : (s : Plane) (cell : Cell) → IsStill s → IsFirstChange s cell → ⊥
-still_clash s cell still first = first.is (ap (λ (p : Plane). p cell.x cell.y) still)
-
 -- a plane has one list of islands
 abbrev OneList : Type 0
 OneList = (s : Plane) (a b : List Island) → AreIslands s a → AreIslands s b → a ≡ b
@@ -50,7 +44,7 @@ number_clash one s a b h k few many = let same = one_number one s a b h k in abs
 
 pub no_refusal : OneList → (s : Plane) (e : TargetError) → IsTarget s → TargetIsRefused s e → e ≡ Memory
 no_refusal one s (TooWide side) t (h, over) = absurd (narrow_clash s side t.narrow h over)
-no_refusal one s (NotStill cell) t (narrow, first) = absurd (still_clash s cell t.still first)
+no_refusal one s (NotStill cell) t (narrow, first) = absurd (first.is (λ i. t.still i cell.x cell.y))
 no_refusal one s (TooManyIslands count) t (narrow, (still, (has, many))) = absurd (number_clash one s t.islands.0 count t.islands.1.0 has t.islands.1.1 many)
 no_refusal one s Memory t h = refl
 
@@ -64,7 +58,7 @@ one_refusal one s (TooWide a) (NotStill b) h k other another = absurd (narrow_cl
 one_refusal one s (TooWide a) (TooManyIslands b) h k other another = absurd (narrow_clash s a k.0 h.0 h.1)
 one_refusal one s (NotStill a) (TooWide b) h k other another = absurd (narrow_clash s b h.0 k.0 k.1)
 one_refusal one s (NotStill a) (NotStill b) h k other another = ap NotStill (one_first _ a b h.1 k.1)
-one_refusal one s (NotStill a) (TooManyIslands b) h k other another = absurd (still_clash s a k.1.0 h.1)
+one_refusal one s (NotStill a) (TooManyIslands b) h k other another = absurd (h.1.is (λ i. k.1.0 i a.x a.y))
 one_refusal one s (TooManyIslands a) (TooWide b) h k other another = absurd (narrow_clash s b h.0 k.0 k.1)
-one_refusal one s (TooManyIslands a) (NotStill b) h k other another = absurd (still_clash s b h.1.0 k.1)
+one_refusal one s (TooManyIslands a) (NotStill b) h k other another = absurd (k.1.is (λ i. h.1.0 i b.x b.y))
 one_refusal one s (TooManyIslands a) (TooManyIslands b) h k other another = ap TooManyIslands (one_number one s a b h.1.1.0 k.1.1.0)

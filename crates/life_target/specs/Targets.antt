@@ -1,5 +1,5 @@
 -- What a target is: a still life that isn't too wide and has not too many islands.
-use Rattle.std.specs.Prelude.{◌≡◌, ℕ, ◌≤◌, ◌<◌, ◌^◌, ◌⊎◌, ℤ, pos, neg_ℤ, ◌+ℤ◌, ◌-ℤ◌, ◌≤ℤ◌, List, length}
+use Rattle.std.specs.Prelude.{◌≡◌, ℕ, ◌≤◌, ◌<◌, ◌^◌, ◌⊎◌, ℤ, pos, ◌+ℤ◌, ◌-ℤ◌, List, length}
 use Rattle.std.specs.Int.{int_max}
 use Rattle.life_plane.specs.Plane.{Plane, IsStill, nothing}
 use Rattle.life_cells.specs.Boxes.{IsInRange, IsLeastBox}
@@ -23,15 +23,6 @@ width box = (box.right -ℤ box.left) +ℤ pos 1
 
 abbrev pub height : Bounds → ℤ
 height box = (box.bottom -ℤ box.top) +ℤ pos 1
-
--- a box of at least one cell, with coordinates from -n to n
-pub record IsBoxInRange (n : ℕ) (box : Bounds) : Type 0 where
-  pub columns : box.left ≤ℤ box.right
-  pub rows : box.top ≤ℤ box.bottom
-  pub left : neg_ℤ (pos n) ≤ℤ box.left
-  pub right : box.right ≤ℤ pos n
-  pub top : neg_ℤ (pos n) ≤ℤ box.top
-  pub bottom : box.bottom ≤ℤ pos n
 
 -- the greater side of the least box about what lives
 pub record HasSide (s : Plane) (side : ℕ) : Type 0 where

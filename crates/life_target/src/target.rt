@@ -1,11 +1,11 @@
 //! Targets.
 
-ghost use Rattle.std.specs.Prelude.{◌≡◌, ◌+◌, ◌≤◌, ◌^◌, pos, IfOk, IfErr};
+ghost use Rattle.std.specs.Prelude.{◌≡◌, ◌+◌, ◌≤◌, ◌^◌, ◌≤ℤ◌, pos, IfOk, IfErr};
 ghost use Rattle.std.specs.Int.{int_max};
 ghost use Rattle.life_plane.specs.Plane.{IsStill};
 ghost use Rattle.life_cells.specs.Cells.{alive};
-ghost use Rattle.life_cells.specs.Boxes.{IsInRange};
-ghost use Rattle.life_target.specs.Targets.{IsBoxInRange, width, height, IsNarrow, IsTarget, HasFewIslands, SideIsRefused, ChangeIsRefused, NumberIsRefused, TargetIsRefused};
+ghost use Rattle.life_cells.specs.Boxes.{IsInRange, IsBoxInRange};
+ghost use Rattle.life_target.specs.Targets.{width, height, IsNarrow, IsTarget, HasFewIslands, SideIsRefused, ChangeIsRefused, NumberIsRefused, TargetIsRefused};
 
 use crate::refusal::TargetError;
 use life_cells::{Bounds, CellSet};
@@ -94,7 +94,8 @@ fn test_target<L: Ledger>(
 
 /// The greater side of a box, in cells.
 fn side_of(bounds: Bounds) -> u64
-    requires { IsBoxInRange (2 ^ 40) bounds }
+    requires columns { bounds.left ≤ℤ bounds.right }
+    requires range { IsBoxInRange (2 ^ 40) bounds }
     ensures { pos result ≡ int_max (width bounds) (height bounds) }
 {
     let width = bounds.right - bounds.left + 1;

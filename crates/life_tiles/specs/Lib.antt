@@ -2,3 +2,5 @@
 pub mod Tiling
 pub mod Tiled
 pub mod Pruning
+pub mod CourseLaws
+pub mod BoxRangeLaws

@@ -2,8 +2,9 @@ use Rattle.std.proofs.Common.{◌↔◌, IsTrue, false, refl, subst, w64, to_z, 
 use Rattle.std.proofs.lemmas.Int.{to_z-of_z}
 use Rattle.life_plane.specs.Strips.{Each, UAtLeast}
 use Rattle.life_cells.specs.Cells.{alive}
-use Rattle.life_cone.proofs.EachCell.{place_in_range, each_more, each_of_set, not_each}
+use Rattle.life_cone.proofs.EachCell.{each_more, each_of_set, not_each}
 use Rattle.life_cone.proofs.diagonals.all_at_least.Goals as goal
+use Rattle.life_cone.specs.CellLaws.{place_in_range}
 
 pub is_at_least-requires : goal.is_at_least-requires
 is_at_least-requires c = place_in_range _ _ c.args.cells.now c.loop-cell.cell-index _ c.requires c.cells-cell-items.ensures.order c.loop-cell-test.true

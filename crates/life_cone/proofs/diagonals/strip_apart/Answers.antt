@@ -3,9 +3,10 @@ use Rattle.std.proofs.lemmas.Int.{to_z-of_z}
 use Rattle.life_plane.specs.Strips.{Each}
 use Rattle.life_cells.specs.Cells.{alive}
 use Rattle.life_cone.specs.Sides.{IsBesideStrip}
-use Rattle.life_cone.proofs.EachCell.{place_in_range, each_more, each_of_set, not_each}
+use Rattle.life_cone.proofs.EachCell.{each_more, each_of_set, not_each}
 use Rattle.life_cone.proofs.Sides.{strip_ends, beside_apart}
 use Rattle.life_cone.proofs.diagonals.strip_apart.Goals as goal
+use Rattle.life_cone.specs.CellLaws.{place_in_range}
 
 pub is_beside_strip-requires-clause-cell : goal.is_beside_strip-requires-clause-cell
 is_beside_strip-requires-clause-cell c = place_in_range _ _ c.args.cells.now c.loop-cell.cell-index _ c.requires.cells c.cells-cell-items.ensures.order c.loop-cell-test.true

@@ -1,4 +1,4 @@
-use Rattle.life_target.proofs.Sides.{nothing_is_target}
+use Rattle.life_target.proofs.NoCells.{nothing_is_target}
 use Rattle.life_target.proofs.laws.nothing_is_a_target.Goals as goal
 
 pub returns : goal.returns
