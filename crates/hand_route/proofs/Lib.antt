@@ -1,2 +1,7 @@
--- Lemmas on lists of salvos that lead the hand.
-pub mod OneList
+-- Lemmas on the ways of the hand.
+pub mod Clear
+pub mod Indexed
+pub mod Tabled
+pub mod Sorting
+pub mod Waying
+pub mod Kept

@@ -1,7 +1,7 @@
 -- Lists of salvos, by their numbers from 1 on, that lead the hand; the least of them.
 use Rattle.std.specs.Prelude.{ℕ, List}
 use Rattle.life_cells.specs.declared.cell.Cell.{Cell}
-use Rattle.hand_route.specs.Walks.{LeadOn, EndsWith, IsLeastLeading, IsLeastEnding}
+use Rattle.breadth_search.specs.Walks.{LeadOn, EndsWith, IsLeastTo, IsLeastEnding}
 use Rattle.hand_route.specs.Moves.{Site, Carries, TakesAway}
 
 -- a hand list: its salvos carry the hand from a place to another, each from where the one before it leaves the hand
@@ -14,7 +14,7 @@ IsFarewell site from list = EndsWith (Carries site) (TakesAway site) from list
 
 -- the least hand list: the shortest, and of these the first number by number
 abbrev pub IsLeastHandList : Site → Cell → List ℕ → Cell → Type 0
-IsLeastHandList site from list to = IsLeastLeading (Carries site) from list to
+IsLeastHandList site from list to = IsLeastTo (Carries site) from to list
 
 -- the least farewell
 abbrev pub IsLeastFarewell : Site → Cell → List ℕ → Type 0

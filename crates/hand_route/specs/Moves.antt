@@ -19,6 +19,9 @@ pub record Site : Type 0 where
   pub room : Bounds
   pub built : Plane
 
+abbrev pub site : Settings → List Struck → Bounds → Plane → Site
+site settings salvos room built = record { settings = settings; salvos = salvos; room = room; built = built }
+
 -- the salvo leaves no island
 abbrev pub BuildsNothing : Struck → Type 0
 BuildsNothing salvo = alive salvo.raw.product ≡ nothing

@@ -27,8 +27,8 @@ fn least_u(bounds: Bounds) -> i64
     bounds.left - bounds.bottom
 }
 
-/// Whether the bounds are beyond the reach.
-pub(crate) fn are_beyond(settings: &Settings, bounds: Bounds) -> bool
+/// Whether the bounds of a hit are beyond the reach. It takes no memory.
+pub fn are_beyond(settings: &Settings, bounds: Bounds) -> bool
     requires settings { AreProper settings.now }
     requires bounds { IsBoxInRange (2 ^ 54) bounds }
     ensures { IsTrue result ↔ AreBeyond settings.now bounds }

@@ -12,6 +12,6 @@ pub mod refusal;
 mod rows;
 
 pub use built_set::BuiltSet;
-pub use clearance::clear_hit;
+pub use clearance::{are_beyond, clear_hit};
 pub use moved::moved_frame;
 pub use refusal::ClearRefusal;

@@ -1,5 +1,5 @@
-use Rattle.hand_route.proofs.OneList.{one_ending}
+use Rattle.breadth_search.specs.OrderLaws.{same_from_at_most}
 use Rattle.hand_route.proofs.laws.farewells_are_one.Goals as goal
 
 pub returns : goal.returns
-returns c = λ site from. one_ending _ _ from
+returns c = λ site from a b h k. same_from_at_most a b (h.least b k.ends) (k.least a h.ends)

@@ -1,0 +1,10 @@
+use Rattle.life_plane.specs.Strips.{Each}
+use Rattle.life_cells.specs.Cells.{alive}
+use Rattle.recipe_hit.specs.declared.hit.Hit.{Hit}
+use Rattle.lane_clear.specs.Clear.{IsOffBounds}
+use Rattle.lane_clear.specs.Frames.{moved_frame}
+use Rattle.hand_route.proofs.Clear.{HoldsSoFar}
+use Rattle.hand_route.proofs.clearing.are_all_off.Given as goal
+
+abbrev pub invariant-loop-hit : goal.invariant-loop-hit
+invariant-loop-hit l = HoldsSoFar (λ (hit : Hit). Each (IsOffBounds (moved_frame l.place hit.frame).bounds) (alive l.built)) l.hits l.hit-index
