@@ -12,7 +12,7 @@ use Rattle.recipe_hit.specs.declared.frame.HitFrame.{HitFrame}
 use Rattle.book_parts.specs.declared.turn.TurnEnd.{TurnEnd}
 use Rattle.book_parts.specs.declared.turn.TurnEnd.TheVariants.{Close, Move, Emit}
 use Rattle.book_parts.specs.Kinds.{kind_plane}
-use Rattle.recipe_hit.specs.SceneHitLaws.{as_box}
+use Rattle.recipe_hit.specs.SceneBoxes.{as_box}
 use Rattle.event_times.specs.Schedule.{Timed, end, Thrown, Past, no_past, past_after, MayStart}
 use Rattle.event_times.specs.Pattern.{turn_gliders}
 

@@ -223,11 +223,3 @@ nothing_in_range n = record { x_low = λ x y l. cc; x_high = λ x y l. cc; y_low
 
 pub nothing_barred : (m : ByLane) → IsEmpty m → AreBarriers nothing m
 nothing_barred m none lane = subst (λ es. IsBarrier nothing lane (lookup (int_eq lane) es)) (sym none) (λ x y l. cc)
-
-pub union_in_range : (n : ℕ) (s t : Plane) → IsInRange n s → IsInRange n t → IsInRange n (union s t)
-union_in_range n s t h k = record {
-  x_low = λ x y l. elim (or_cases (s x y) (t x y) l) [ inl a ↦ h.x_low x y a | inr b ↦ k.x_low x y b ];
-  x_high = λ x y l. elim (or_cases (s x y) (t x y) l) [ inl a ↦ h.x_high x y a | inr b ↦ k.x_high x y b ];
-  y_low = λ x y l. elim (or_cases (s x y) (t x y) l) [ inl a ↦ h.y_low x y a | inr b ↦ k.y_low x y b ];
-  y_high = λ x y l. elim (or_cases (s x y) (t x y) l) [ inl a ↦ h.y_high x y a | inr b ↦ k.y_high x y b ];
-}

@@ -22,8 +22,9 @@ use Rattle.lane_clear.specs.Bare.{IsBare, HasCells, grown}
 use Rattle.lane_clear.specs.Barriers.{ByLane, IsBarrier, AreBarriers, with_cells}
 use Rattle.lane_clear.specs.Clear.{AreBeyond, IsOffBounds, IsAside, IsClear}
 use Rattle.lane_clear.specs.Frames.{farthest}
-use Rattle.lane_clear.proofs.Barred.{nothing_in_range, nothing_barred, union_in_range, barriers_more, free_lane, free_behind, ahead_where_free}
+use Rattle.lane_clear.proofs.Barred.{nothing_in_range, nothing_barred, barriers_more, free_lane, free_behind, ahead_where_free}
 use Rattle.lane_clear.proofs.Near.{bare_is_off}
+use Rattle.life_cells.specs.BoxLaws.{range_union}
 
 -- the cells are in range, and each lane has its barrier
 abbrev pub AreKept : Plane → ByLane → Type 0
@@ -39,7 +40,7 @@ pub more_kept : (s t island : Cells) (cs : List Cell) (before after : ByLane) �
     ((lane : ℤ) → get int_eq after lane ≡ with_cells lane (get int_eq before lane) cs) → AreKept (alive t) after
 more_kept s t island cs before after e is kept range lowered =
     subst (λ (p : Plane). AreKept p after) (sym is) (
-      union_in_range farthest (alive s) (alive island) kept.0 range,
+      range_union farthest (alive s) (alive island) kept.0 range,
       subst (λ (p : Plane). AreBarriers (union (alive s) p) after) (alive_of_order cs island e) (barriers_more (alive s) cs before after kept.1 lowered),
     )
 

@@ -11,7 +11,7 @@ use Rattle.life_plane.specs.Plane.{Plane}
 use Rattle.life_plane.specs.Strips.{Each}
 use Rattle.life_cells.specs.declared.cell.Cell.{Cell}
 
--- numbers by lanes, since antt has no name for an alias
+-- a number for each lane that something stands beside
 abbrev pub ByLane : Type 0
 ByLane = HashMap ℤ ℤ (BuildHasherDefault FoldHasher)
 

@@ -2,7 +2,8 @@
 use Rattle.life_plane.specs.Plane.{Plane, shift}
 use Rattle.life_scene.specs.MovedHitLaws.{hit_moved}
 use Rattle.recipe_hit.specs.Strike.{IsHit}
-use Rattle.recipe_hit.specs.SceneHitLaws.{as_box, scene_hit}
+use Rattle.recipe_hit.specs.SceneHitLaws.{scene_hit}
+use Rattle.recipe_hit.specs.SceneBoxes.{as_box}
 use Rattle.lane_clear.specs.Frames.{moved_bounds, moved_frame}
 use Rattle.life_scene.specs.Hits as scene
 use Rattle.life_cells.specs.Cells.{alive}

@@ -6,7 +6,7 @@ use Rattle.life_plane.specs.Strips.{Each}
 use Rattle.life_plane.specs.Salvo.{salvo_glider}
 use Rattle.life_scene.specs.Hits as scene
 use Rattle.recipe_hit.specs.declared.frame.HitFrame.{HitFrame}
-use Rattle.recipe_hit.specs.SceneHitLaws.{as_box}
+use Rattle.recipe_hit.specs.SceneBoxes.{as_box}
 
 -- a hit while it happens, which is in its bounds, and its glider up to the last phase of the quarter at which it begins, stay apart from
 -- what is built

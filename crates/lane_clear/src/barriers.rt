@@ -17,7 +17,7 @@ const BELOW: i64 = 6;
 /// How far above the lane it is at most.
 const ABOVE: i64 = 5;
 
-// The lesser of a number and a lane's, if it has one.
+/// The lesser of a number and a lane's, if it has one.
 fn lesser(u: i64, other: Option<i64>) -> i64
     ensures { result ≡ lesser_of u other }
 {
@@ -27,7 +27,7 @@ fn lesser(u: i64, other: Option<i64>) -> i64
     }
 }
 
-// Puts a cell of this u beside a lane.
+/// Puts a cell of this u beside a lane.
 fn lower(barriers: &mut HashMap<i64, i64>, lane: i64, u: i64) -> Result<(), NoMemory>
     ensures { OnOk result (Updates int_eq barriers.old barriers.new lane (Some (lesser_of u (get int_eq barriers.old lane)))) }
 {
@@ -36,7 +36,7 @@ fn lower(barriers: &mut HashMap<i64, i64>, lane: i64, u: i64) -> Result<(), NoMe
     Ok(())
 }
 
-// Puts a cell beside each lane that it is beside.
+/// Puts a cell beside each lane that it is beside.
 fn add_cell(barriers: &mut HashMap<i64, i64>, cell: Cell) -> Result<(), NoMemory>
     requires { IsCellInRange farthest cell }
     ensures { OnOk result ((lane : ℤ) → get int_eq barriers.new lane ≡ with_cell lane (get int_eq barriers.old lane) cell) }

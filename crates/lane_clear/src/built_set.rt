@@ -126,7 +126,7 @@ impl BuiltSet {
     }
 }
 
-// Whether bounds have a cell: their left isn't past their right, nor their top past their bottom.
+/// Whether bounds have a cell: their left isn't past their right, nor their top past their bottom.
 fn has_cells(bounds: Bounds) -> bool
     ensures { IsTrue result ↔ HasCells bounds }
 {
@@ -135,7 +135,7 @@ fn has_cells(bounds: Bounds) -> bool
     columns & rows
 }
 
-// Bounds with what is near to them.
+/// Bounds with what is near to them.
 fn grown(bounds: Bounds) -> Bounds
     requires { IsBoxInRange (2 ^ 54) bounds }
     ensures { result ≡ grown bounds }

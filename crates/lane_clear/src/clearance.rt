@@ -19,7 +19,7 @@ use recipe_hit::HitFrame;
 /// How far the bounds of a hit are past the reach at least.
 const BEYOND: i64 = 5;
 
-// The least u of bounds.
+/// The least u of bounds.
 fn least_u(bounds: Bounds) -> i64
     requires { IsBoxInRange (2 ^ 54) bounds }
     ensures { result ≡ bounds.left -ℤ bounds.bottom }
@@ -36,7 +36,7 @@ pub fn are_beyond(settings: &Settings, bounds: Bounds) -> bool
     least_u(bounds) >= settings.reach + BEYOND
 }
 
-// Tests whether the bounds are beyond the reach.
+/// Tests whether the bounds are beyond the reach.
 fn test_reach(settings: &Settings, bounds: Bounds) -> Result<(), ClearRefusal>
     requires settings { AreProper settings.now }
     requires bounds { IsBoxInRange (2 ^ 54) bounds }
@@ -50,7 +50,7 @@ fn test_reach(settings: &Settings, bounds: Bounds) -> Result<(), ClearRefusal>
     Ok(())
 }
 
-// Whether a hit of this frame is clear of what is built.
+/// Whether a hit of this frame is clear of what is built.
 fn clear_there(settings: &Settings, built: &CellSet, frame: HitFrame) -> Result<(), ClearRefusal>
     requires settings { AreProper settings.now }
     requires built { IsInRange farthest (alive built.now) }

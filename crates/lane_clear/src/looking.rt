@@ -13,7 +13,7 @@ use life_cells::{Bounds, Cell, CellSet};
 use life_cone::box_apart;
 use recipe_hit::HitFrame;
 
-// The box of one cell.
+/// The box of one cell.
 fn box_of(cell: Cell) -> Bounds
     ensures { result ≡ record { left = cell.x; top = cell.y; right = cell.x; bottom = cell.y } }
 {
@@ -25,7 +25,7 @@ fn box_of(cell: Cell) -> Bounds
     }
 }
 
-// Whether no cell of the bounds is within distance 2 of the cell.
+/// Whether no cell of the bounds is within distance 2 of the cell.
 fn is_off_bounds(bounds: Bounds, cell: Cell) -> bool
     requires bounds { IsBoxInRange (2 ^ 54) bounds }
     requires cell { IsCellInRange farthest cell }
@@ -34,7 +34,7 @@ fn is_off_bounds(bounds: Bounds, cell: Cell) -> bool
     box_apart(box_of(cell), bounds)
 }
 
-// Whether the cell is off the lane of a hit's glider, or ahead of where the hit begins.
+/// Whether the cell is off the lane of a hit's glider, or ahead of where the hit begins.
 fn is_aside(frame: HitFrame, cell: Cell) -> bool
     requires frame { IsFrameInRange (2 ^ 54) frame }
     requires cell { IsCellInRange farthest cell }

@@ -7,7 +7,7 @@ ghost use Rattle.lane_clear.specs.Frames.{moved_bounds, moved_frame, farthest, I
 use life_cells::{Bounds, Cell};
 use recipe_hit::HitFrame;
 
-// Bounds where the hand is at this place.
+/// Bounds where the hand is at this place.
 fn moved_bounds(bounds: Bounds, at: Cell) -> Bounds
     requires bounds { IsBoxInRange farthest bounds }
     requires at { IsCellInRange farthest at }

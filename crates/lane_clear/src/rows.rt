@@ -10,7 +10,7 @@ ghost use Rattle.lane_clear.specs.Bare.{IsBare, IsBefore, IsNext, IsRowAfter};
 
 use life_cells::{Bounds, Cell};
 
-// The place of the first cell that doesn't come before this one; the length where all do.
+/// The place of the first cell that doesn't come before this one; the length where all do.
 fn first_from(cells: &[Cell], it: Cell) -> usize
     requires { IsRising cells.now }
     ensures { IsFirstFrom cells.now it result }
@@ -21,7 +21,7 @@ fn first_from(cells: &[Cell], it: Cell) -> usize
     }
 }
 
-// The first cell from column left of a row on; None where all come before.
+/// The first cell from column left of a row on; None where all come before.
 fn next_from(cells: &[Cell], left: i64, row: i64) -> Option<Cell>
     requires { IsRising cells.now }
     ensures some { IfSome result (IsNext cells.now left row) }
@@ -31,7 +31,7 @@ fn next_from(cells: &[Cell], left: i64, row: i64) -> Option<Cell>
     cells.get(first_from(cells, first)).copied()
 }
 
-// Whether the box has the cell.
+/// Whether the box has the cell.
 fn has(bounds: Bounds, cell: Cell) -> bool
     ensures { IsTrue result ↔ InBox bounds cell.x cell.y }
 {
@@ -42,7 +42,7 @@ fn has(bounds: Bounds, cell: Cell) -> bool
     right_of_left & below_top & left_of_right & above_bottom
 }
 
-// The next row to look at, where the first cell from the box's left of a row on is this one, and isn't in the box.
+/// The next row to look at, where the first cell from the box's left of a row on is this one, and isn't in the box.
 fn next_row(bounds: Bounds, cell: Cell) -> i64
     requires { cell.y <ℤ pos (2 ^ 62) }
     ensures { IsRowAfter bounds cell result }

@@ -20,7 +20,7 @@ use Rattle.plan_facts.specs.MayHit.{MayHit, after_hit, built_after, hand_after}
 use Rattle.plan_facts.specs.ListLaws.{GoesWell}
 use Rattle.plan_facts.specs.SalvoLaws.{hit_in_turn}
 use Rattle.plan_facts.specs.StrikesThereLaws.{stands_is}
-use Rattle.recipe_hit.specs.SceneHitLaws.{as_box}
+use Rattle.recipe_hit.specs.SceneBoxes.{as_box}
 use Rattle.lane_clear.specs.MovedFrameLaws.{hit_at}
 use Rattle.life_scene.specs.HitLaws.{struck_inside}
 use Rattle.plan_facts.specs.HitLeaves.{left_of, LeavesBoth}

@@ -6,7 +6,7 @@ use Rattle.life_plane.specs.Strips.{Each}
 use Rattle.life_scene.specs.Clearance.{ComesPast}
 use Rattle.event_times.specs.Schedule.{Timed, end}
 use Rattle.event_times.specs.Events.{HasBeen, SparesHit}
-use Rattle.recipe_hit.specs.SceneHitLaws.{as_box}
+use Rattle.recipe_hit.specs.SceneBoxes.{as_box}
 use Rattle.life_scene.specs.Hits as scene
 use Rattle.life_cells.specs.declared.bounds.Bounds.{Bounds}
 

@@ -19,7 +19,7 @@ use Rattle.plan_facts.specs.State.{hand_plane, State, left_by}
 use Rattle.plan_facts.specs.MayHit.{is_last, hand_left, built_after, hand_after, MayHit}
 use Rattle.life_plane.specs.StillLaws.{first_still, second_still, still_union, apart_moved}
 use Rattle.plan_facts.specs.SalvoLaws.{IsHitInTurn, all_left, hit_in_turn}
-use Rattle.recipe_hit.specs.SceneHitLaws.{as_box}
+use Rattle.recipe_hit.specs.SceneBoxes.{as_box}
 use Rattle.plan_facts.specs.HitLeaves.{left_of, LeavesBoth}
 use Rattle.lane_clear.specs.MovedFrameLaws.{hit_at}
 use Rattle.life_scene.specs.HitLaws.{left_inside}

@@ -1,5 +1,5 @@
 -- The index by shape, as salvos are noted one after the other.
-use Rattle.std.specs.Prelude.{◌≡◌, ◌⊎◌, ℕ, ◌+◌, ◌<◌, Bool, true, false, List, [], ◌∷◌, ◌++◌, length, Vec, zero, suc, ℤ}
+use Rattle.std.specs.Prelude.{◌≡◌, ◌⊎◌, ℕ, ◌+◌, ◌<◌, Bool, true, false, List, [], ◌∷◌, ◌++◌, length, Vec, zero, suc}
 use Rattle.std.specs.List.{AllByRecursion, Contains, slice_get}
 use Rattle.std.specs.Map.{lookup}
 use Rattle.std.specs.declared.alloc.Global.{Global}
@@ -12,7 +12,7 @@ use Rattle.std.proofs.lemmas.Option.{slice_get_within}
 use Rattle.life_plane.specs.ListLaws.{all_push}
 use Rattle.life_plane.specs.Plane.{Plane}
 use Rattle.life_cells.specs.Cells.{Cells, alive, empty}
-use Rattle.life_cells.specs.Laws.{same_cells, alive-empty}
+use Rattle.life_cells.specs.Laws.{same_cells}
 use Rattle.life_cells.specs.Same.{same_set}
 use Rattle.life_cells.specs.SameLaws.{same_set_is, same_set-equal}
 use Rattle.life_cells.specs.declared.cell.Cell.{Cell}
@@ -20,6 +20,7 @@ use Rattle.life_islands.specs.Shapes.{IsShapeOf}
 use Rattle.life_islands.specs.ShapeLaws.{one_shape}
 use Rattle.recipe_hit.specs.Checked.{Struck}
 use Rattle.recipe_book.specs.ByShape.{Builds, IsNumberOf, AreAscending, AreNumbersOf, items_or_none, numbers_under, IsIndex, AddsNumber}
+use Rattle.book_parts.specs.KindLaws.{empty_dead}
 
 -- ---- one salvo more
 
@@ -104,12 +105,9 @@ none_yet shape = record { each = tt; all = λ n is. absurd (none n is); ascendin
     none : (n : ℕ) → IsNumberOf [] (alive shape) n → ⊥
     none n is = let there = is.there in cc
 
-empty_dies : (product : Cells) (x y : ℤ) → product ≡ empty → alive product x y ≡ true → ⊥
-empty_dies product x y none lives = true≢false (sym lives ∙ ap (λ (s : Cells). alive s x y) none ∙ ap (λ (p : Plane). p x y) alive-empty)
-
 -- a salvo without a product builds no shape
 builds_nothing : (s : Struck) (shape : Plane) → s.raw.product ≡ empty → Builds s shape → ⊥
-builds_nothing s shape none b = let lives = b.is.top_left.least.lives in empty_dies s.raw.product lives.0 lives.1.0 none lives.1.1
+builds_nothing s shape none b = let lives = b.is.top_left.least.lives in empty_dead s.raw.product lives.0 lives.1.0 none lives.1.1
 
 passes : (salvos : List Struck) (s : Struck) (index : List (Cells × Vec ℕ Global)) → s.raw.product ≡ empty → IsIndex salvos index → IsIndex (salvos ++ (s ∷ [])) index
 passes salvos s index none h shape = same_numbers salvos s (alive shape) (numbers_under index shape) (builds_nothing s (alive shape) none) (h shape)

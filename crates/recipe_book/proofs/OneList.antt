@@ -1,6 +1,5 @@
 -- The sound entries and the verdicts of a book are one list each, and what refuses a book that passes its tests.
 use Rattle.std.specs.Prelude.{◌≡◌, ◌≢◌, ℕ, List, [], ◌∷◌, ◌++◌}
-use Rattle.std.specs.List.{AllZip}
 use Rattle.std.proofs.Common.{refl, sym, ap, subst, ◌∙◌, inl, inr}
 use Rattle.life_plane.specs.Plane.{Plane, IsStill, step}
 use Rattle.life_cells.specs.Cells.{Cells, alive}
@@ -18,7 +17,6 @@ use Rattle.recipe_hit.specs.declared.hit.Hit.{Hit}
 use Rattle.recipe_hit.specs.SalvoRefusals.{SalvoIsRefused}
 use Rattle.recipe_hit.specs.declared.refusal.SalvoRefusal.{SalvoRefusal}
 use Rattle.recipe_hit.specs.declared.refusal.SalvoRefusal.TheVariants as salvos
-use Rattle.life_cells.specs.Firsts.{IsFirstChange}
 use Rattle.life_cells.specs.FirstLaws.{one_first}
 use Rattle.recipe_turn.specs.Checked.{AreValid}
 use Rattle.recipe_turn.specs.Refusals.{KindsAreRefused, TurnIsRefused}
@@ -34,6 +32,7 @@ use Rattle.recipe_book.proofs.Judged.{unsound_turn, unsound_salvo}
 use Rattle.recipe_book.specs.Refusals.{BookIsRefused}
 use Rattle.recipe_book.specs.declared.refusal.BookRefusal.{BookRefusal}
 use Rattle.recipe_book.specs.declared.refusal.BookRefusal.TheVariants.{KindPlace, KindNotStill, HandNotStill, ElbowMany, Memory}
+use Rattle.book_parts.specs.ListLaws.{one_each}
 
 pub one_list : {A : Type 0} (P : A → Type 0) (xs a b : List A) → AreThose P xs a → AreThose P xs b → a ≡ b
 one_list P [] a b h k = h ∙ sym k
@@ -41,15 +40,6 @@ one_list {A} P (x ∷ xs) a b (inl h) (inl k) = h.1.1.0 ∙ ap (λ (rest : List 
 one_list P (x ∷ xs) a b (inl h) (inr k) = absurd (k.0 h.0)
 one_list P (x ∷ xs) a b (inr h) (inl k) = absurd (h.0 k.0)
 one_list P (x ∷ xs) a b (inr h) (inr k) = one_list P xs a b h.1 k.1
-
--- two lists that hold of a third place by place are one, where one thing at most holds of each
-pub one_zip : {A B : Type 0} (R : A → B → Type 0) → ((x : A) (y z : B) → R x y → R x z → y ≡ z) → (xs : List A) (ys zs : List B) → AllZip R xs ys → AllZip R xs zs → ys ≡ zs
-one_zip R one [] [] [] h k = refl
-one_zip R one [] [] (z ∷ zs) h k = absurd k
-one_zip R one [] (y ∷ ys) zs h k = absurd h
-one_zip R one (x ∷ xs) [] zs h k = absurd h
-one_zip R one (x ∷ xs) (y ∷ ys) [] h k = absurd k
-one_zip R one (x ∷ xs) (y ∷ ys) (z ∷ zs) h k = let first = one x y z h.0 k.0 in let rest = one_zip R one xs ys zs h.1 k.1 in λ i. first i ∷ rest i
 
 -- what is known of refusals of turns and of salvos: what is sound has none, and each has one at most
 pub record RefusalsAreExact : Type 0 where
@@ -82,8 +72,8 @@ one_salvo_verdict law hand salvo (Salvo e) (Salvo f) h k = ap Salvo (law.one_of_
 pub one_list_of_verdicts : RefusalsAreExact → (settings : Settings) (list : List RawKind) (hand : Plane) (ts : List RawTurn) (ss : List RawSalvo) (a b : List Verdict) →
     AreVerdicts settings list hand ts ss a → AreVerdicts settings list hand ts ss b → a ≡ b
 one_list_of_verdicts law settings list hand ts ss a b h k =
-    let on_turns : h.on_turns ≡ k.on_turns = one_zip (IsTurnVerdict settings list) (one_turn_verdict law settings list) ts h.on_turns k.on_turns h.turns_are k.turns_are in
-    let on_salvos : h.on_salvos ≡ k.on_salvos = one_zip (IsSalvoVerdict hand) (one_salvo_verdict law hand) ss h.on_salvos k.on_salvos h.salvos_are k.salvos_are in
+    let on_turns : h.on_turns ≡ k.on_turns = one_each (IsTurnVerdict settings list) (one_turn_verdict law settings list) ts h.on_turns k.on_turns h.turns_are k.turns_are in
+    let on_salvos : h.on_salvos ≡ k.on_salvos = one_each (IsSalvoVerdict hand) (one_salvo_verdict law hand) ss h.on_salvos k.on_salvos h.salvos_are k.salvos_are in
     h.split ∙ (λ i. on_turns i ++ on_salvos i) ∙ sym k.split
 
 place_is : (n : ℕ) (c : Cell) → kinds.Place n c ≡ kinds.Memory → ⊥
@@ -92,16 +82,13 @@ place_is n c e = cc
 still_is : (n : ℕ) (c : Cell) → kinds.NotStill n c ≡ kinds.Memory → ⊥
 still_is n c e = cc
 
-changes : (s : Plane) (c : Cell) → IsStill s → IsFirstChange s c → ⊥
-changes s c still first = first.is (ap (λ (p : Plane). p c.x c.y) still)
-
 pub no_refusal : ((settings : Settings) (list : List RawKind) (e : KindsError) → AreValid settings list → KindsAreRefused settings list e → e ≡ kinds.Memory) →
     ((turns : List RawTurn) (start : ℕ) (span : _) (limit count : ℕ) → HasStates turns start span limit count → HasMoreStates turns start span limit → ⊥) →
     (settings : Settings) (hand : Cells) (list : List RawKind) (start : ℕ) (turns sound : List RawTurn) (count : ℕ) (e : BookRefusal) →
     AreValid settings list → IsStill (alive hand) → AreTheSound settings list turns sound → HasStates sound start settings.span most_states count → BookIsRefused settings hand list start turns e → e ≡ Memory
 no_refusal kinds_law states_law settings hand list start turns sound count (KindPlace n c) valid still are states r = absurd (place_is n c (kinds_law settings list (kinds.Place n c) valid r))
 no_refusal kinds_law states_law settings hand list start turns sound count (KindNotStill n c) valid still are states r = absurd (still_is n c (kinds_law settings list (kinds.NotStill n c) valid r))
-no_refusal kinds_law states_law settings hand list start turns sound count (HandNotStill c) valid still are states r = absurd (changes (alive hand) c still r.1)
+no_refusal kinds_law states_law settings hand list start turns sound count (HandNotStill c) valid still are states r = absurd (r.1.is (λ i. still i c.x c.y))
 no_refusal kinds_law states_law settings hand list start turns sound count (ElbowMany m) valid still are states r =
     let many = r.1.1.1 in
     absurd (states_law sound start settings.span most_states count states (subst (λ (ts : List RawTurn). HasMoreStates ts start settings.span most_states) (one_list (IsSoundIn settings list) turns many.sound sound many.are are) many.more))
@@ -139,10 +126,10 @@ one_refusal law settings hand list start ts (KindNotStill n c) (ElbowMany m) h k
 one_refusal law settings hand list start ts (HandNotStill c) (KindPlace m d) h k x y = absurd (place_is m d (law.valid settings list (kinds.Place m d) h.0 k))
 one_refusal law settings hand list start ts (HandNotStill c) (KindNotStill m d) h k x y = absurd (still_is m d (law.valid settings list (kinds.NotStill m d) h.0 k))
 one_refusal law settings hand list start ts (HandNotStill c) (HandNotStill d) h k x y = ap HandNotStill (one_first (λ x y. step (alive hand) x y ≢ alive hand x y) c d h.1 k.1)
-one_refusal law settings hand list start ts (HandNotStill c) (ElbowMany m) h k x y = absurd (changes (alive hand) c k.1.0 h.1)
+one_refusal law settings hand list start ts (HandNotStill c) (ElbowMany m) h k x y = absurd (h.1.is (λ i. k.1.0 i c.x c.y))
 one_refusal law settings hand list start ts (ElbowMany n) (KindPlace m d) h k x y = absurd (place_is m d (law.valid settings list (kinds.Place m d) h.0 k))
 one_refusal law settings hand list start ts (ElbowMany n) (KindNotStill m d) h k x y = absurd (still_is m d (law.valid settings list (kinds.NotStill m d) h.0 k))
-one_refusal law settings hand list start ts (ElbowMany n) (HandNotStill d) h k x y = absurd (changes (alive hand) d h.1.0 k.1)
+one_refusal law settings hand list start ts (ElbowMany n) (HandNotStill d) h k x y = absurd (k.1.is (λ i. h.1.0 i d.x d.y))
 one_refusal law settings hand list start ts (ElbowMany n) (ElbowMany m) h k x y = ap ElbowMany (h.1.1.0 ∙ sym k.1.1.0)
 one_refusal law settings hand list start ts Memory f h k x y = absurd (x refl)
 one_refusal law settings hand list start ts e Memory h k x y = absurd (y refl)

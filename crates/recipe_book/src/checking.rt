@@ -32,7 +32,7 @@ use std::sync::ledger::Ledger;
 /// The most elbow states of a book.
 const MOST_STATES: u64 = 4_194_304;
 
-// The kinds, where all are valid.
+/// The kinds, where all are valid.
 fn valid_kinds<L: Ledger>(
     alloc: Global,
     settings: &Settings,
@@ -59,7 +59,7 @@ fn valid_kinds<L: Ledger>(
     }
 }
 
-// The hand, where it is still.
+/// The hand, where it is still.
 fn still_hand<L: Ledger>(
     alloc: Global,
     hand: CellSet,
@@ -79,7 +79,7 @@ fn still_hand<L: Ledger>(
     }
 }
 
-// Refuses turns that lead the elbow to too many states.
+/// Refuses turns that lead the elbow to too many states.
 fn check_states(
     alloc: Global,
     turns: &[CheckedTurn],

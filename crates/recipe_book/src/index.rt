@@ -11,7 +11,7 @@ use life_islands::{Shape, shape_of};
 use recipe_hit::CheckedSalvo;
 use std::alloc::Global;
 
-// Adds a salvo's number under the shape of what it builds.
+/// Adds a salvo's number under the shape of what it builds.
 fn add_number(
     alloc: Global,
     index: &mut IndexMap<Shape, Vec<usize>>,

@@ -20,7 +20,7 @@ use recipe_hit::{CheckedSalvo, Hand, SalvoRefusal, check_salvo};
 use std::alloc::Global;
 use std::sync::ledger::Ledger;
 
-// The salvo where it is sound, and else the cause.
+/// The salvo where it is sound, and else the cause.
 fn judge_salvo<L: Ledger>(
     alloc: Global,
     hand: &Hand,

@@ -19,7 +19,7 @@ use recipe_turn::{CheckedTurn, Kinds, TurnRefusal, check_turn};
 use std::alloc::Global;
 use std::sync::ledger::Ledger;
 
-// The turn where it is sound, and else the cause.
+/// The turn where it is sound, and else the cause.
 fn judge_turn<L: Ledger>(
     alloc: Global,
     settings: &Settings,

@@ -13,7 +13,8 @@ use Rattle.life_cells.specs.Cells.{alive}
 use Rattle.life_cells.specs.Boxes.{Holds}
 use Rattle.recipe_hit.specs.declared.hit.Hit.{Hit}
 use Rattle.recipe_hit.specs.Strike.{first_quarter, hit_start, ComesToRest, IsHit}
-use Rattle.recipe_hit.specs.SceneHitLaws.{as_box, held, scene_hit}
+use Rattle.recipe_hit.specs.SceneHitLaws.{held, scene_hit}
+use Rattle.recipe_hit.specs.SceneBoxes.{as_box}
 use Rattle.recipe_hit.specs.FurtherBack.{start_before, IsHitFrom}
 
 module _ (struck : Plane) (box : Bounds) (lane : ℤ) (still : IsStill struck) (holds : Holds box struck) where

@@ -4,10 +4,8 @@ use Rattle.std.specs.List.{slice_get}
 use Rattle.life_plane.specs.Plane.{Plane}
 use Rattle.life_plane.specs.Apart.{Apart}
 use Rattle.life_cells.specs.declared.cell.Cell.{Cell}
-use Rattle.life_cells.specs.Cells.{cell, Cells, alive, empty, in_order}
+use Rattle.life_cells.specs.Cells.{Cells, alive, empty, in_order}
 use Rattle.life_cells.specs.Close.{Close}
-use Rattle.life_cells.specs.Difference.{IsFirstDifference}
-use Rattle.life_cells.specs.Firsts.{IsFirstDifferent}
 use Rattle.life_cells.specs.Laws.{alive-empty, same_cells}
 use Rattle.life_islands.specs.Islands.{IsOneIsland}
 use Rattle.recipe_hit.specs.Sound.{IsWhole}
@@ -32,10 +30,3 @@ none_near product hand n short each = record {
 -- close cells are not apart
 pub near_not_apart : (product hand : Plane) (c : Cell) → IsFirstNear product hand c → Apart product hand → ⊥
 near_not_apart product hand c first apart = let near = first.is.1 in apart.far c.x c.y near.a near.b first.is.0 near.lives near.near
-
--- the first cell in just one of two sets
-pub first_different : (s t p q : Plane) (c : Cell) → s ≡ p → t ≡ q → IsFirstDifference c s t → IsFirstDifferent p q c
-first_different s t p q c same_s same_t first = record {
-  is = λ e. first.differs (ap (λ (r : Plane). r c.x c.y) same_s ∙ e ∙ ap (λ (r : Plane). r c.x c.y) (sym same_t));
-  none_before = λ x y apart before. apart (ap (λ (r : Plane). r x y) (sym same_s) ∙ first.same_before (cell x y) before ∙ ap (λ (r : Plane). r x y) same_t);
-}

@@ -1,6 +1,6 @@
 -- Lemmas of this crate's own proofs.
 pub mod Comparisons
-pub mod Joining
+pub mod SetBox
 pub mod Resting
 pub mod HitStarts
 pub mod Hitting

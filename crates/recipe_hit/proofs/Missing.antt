@@ -1,9 +1,7 @@
 -- The first lane without a hit.
-use Rattle.std.proofs.Common.{◌≡◌, ℕ, ◌+◌, ◌<◌, ℤ, List, [], ◌∷◌, ◌++◌, length, get_or, take, drop, sym, ap, subst, ◌∙◌, arith, w64, to_z, of_z}
-use Rattle.std.proofs.lemmas.Int.{ints}
+use Rattle.std.proofs.Common.{◌≡◌, ℕ, ◌+◌, ◌<◌, ℤ, List, [], ◌∷◌, ◌++◌, length, get_or, take, drop, sym, ap, subst, ◌∙◌, arith}
 use Rattle.std.proofs.lemmas.List.{at_drop_more, take-append-drop, length-take-le, take_more}
 use Rattle.life_plane.specs.Plane.{Plane}
-use Rattle.book_parts.specs.Limits.{IsCoordinate}
 use Rattle.recipe_hit.specs.declared.hit.Hit.{Hit}
 use Rattle.recipe_hit.specs.declared.refusal.SalvoRefusal.{SalvoRefusal}
 use Rattle.recipe_hit.specs.declared.refusal.SalvoRefusal.TheVariants.{Empty, NotSettled, EndDiffers, ProductSplit, HandNear, Memory}
@@ -11,10 +9,6 @@ use Rattle.recipe_hit.specs.Strike.{IsHit}
 use Rattle.recipe_hit.specs.Sound.{AreHits, what_is_left}
 use Rattle.recipe_hit.specs.SalvoRefusals.{IsFirstMissing, LaneIsRefused, LanesAreRefused}
 use Rattle.recipe_hit.proofs.InTurn.{hits_more}
-
--- a lane that is read is what it was
-pub lane_read : (z : ℤ) → IsCoordinate z → to_z w64 (of_z w64 z) ≡ z
-lane_read z h = let low = h.low in let high = h.high in omega (arith, ints)
 
 missing_here : (start struck : Plane) (lanes : List ℤ) (hits : List Hit) (place number : ℕ) (d : ℤ) (Fails : Plane → ℤ → Type 0) → place < length lanes → AreHits start (take place lanes) hits →
     struck ≡ what_is_left start hits → number ≡ place + 1 → Fails struck (get_or lanes place d) → IsFirstMissing start lanes number Fails

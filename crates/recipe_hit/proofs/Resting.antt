@@ -18,10 +18,6 @@ MovesBefore start n = (t : ℕ) → t < n → IsStill (run t start) → ⊥
 pub course_range : (start s : Plane) (t : ℕ) → IsInRange (2 ^ 44) start → t ≤ LONGEST_HIT → s ≡ run t start → IsInRange (2 ^ 61) s
 course_range start s t h le same = subst (IsInRange (2 ^ 61)) (sym same) (range_wider (2 ^ 44 + t) (2 ^ 61) _ (range_run t (2 ^ 44) start h) (omega arith))
 
--- one generation on
-pub course_more : (start s next : Plane) (t : ℕ) → s ≡ run t start → next ≡ step s → next ≡ run (t + 1) start
-course_more start s next t same is = is ∙ ap step same ∙ ap (λ k. run k start) (let e : suc t ≡ t + 1 = omega arith in e)
-
 -- what a step changes isn't still
 pub not_still_now : (start : Plane) (s next : Cells) (t : ℕ) → alive s ≡ run t start → alive next ≡ step (alive s) → (next ≡ s → ⊥) → IsStill (run t start) → ⊥
 not_still_now start s next t same is changed still = changed (same_cells next s (is ∙ ap step same ∙ still ∙ sym same))

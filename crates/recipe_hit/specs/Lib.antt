@@ -1,6 +1,7 @@
 -- Hits at the hand, and what makes a salvo sound.
 pub mod Strike
 pub mod SceneHitLaws
+pub mod SceneBoxes
 pub mod Hands
 pub mod Refusals
 pub mod Rest

@@ -11,10 +11,7 @@ use Rattle.life_cells.specs.Boxes.{Holds}
 use Rattle.life_cells.specs.declared.bounds.Bounds.{Bounds}
 use Rattle.recipe_hit.specs.declared.hit.Hit.{Hit}
 use Rattle.recipe_hit.specs.Strike.{hit_start, ever, IsHit}
-
--- bounds as a box of the scene
-abbrev pub as_box : Bounds → scene.Box
-as_box b = record { left = b.left; top = b.top; right = b.right; bottom = b.bottom }
+use Rattle.recipe_hit.specs.SceneBoxes.{as_box}
 
 pub held : (box : Bounds) (s : Plane) → Holds box s → Each (scene.InBox (as_box box)) s
 held box s h x y l = let i = h.each x y l in record { left = i.right_of_left; top = i.below_top; right = i.left_of_right; bottom = i.above_bottom }

@@ -1,9 +1,7 @@
 -- A turn's gliders, delay by delay.
-use Rattle.std.proofs.Common.{◌≡◌, ℕ, ◌+◌, ◌<◌, ◌≤◌, Bool, true, false, ◌||◌, ℤ, ◌-ℤ◌, List, [], ◌∷◌, ◌++◌, length, get_or, take, drop, refl, sym, ap, ◌∙◌, arith, w64, to_z, of_z}
-use Rattle.std.proofs.lemmas.Int.{ints}
+use Rattle.std.proofs.Common.{◌≡◌, ℕ, ◌+◌, ◌<◌, ◌≤◌, Bool, true, false, ◌||◌, ℤ, List, ◌++◌, length, get_or, take, drop, refl, sym, ap, ◌∙◌}
 use Rattle.std.proofs.lemmas.List.{at_drop_more, at_drop_all, take_more, take_all}
-use Rattle.std.proofs.Math.Bool.{or_assoc, or-false}
-use Rattle.life_plane.specs.Plane.{Plane, union, same_plane}
+use Rattle.life_plane.specs.Plane.{union, same_plane}
 use Rattle.life_plane.specs.Tracks.{stream_glider, OnStream}
 use Rattle.life_plane.specs.TrackLaws.{stream_range}
 use Rattle.life_cells.specs.declared.cell.Cell.{Cell}
@@ -11,15 +9,8 @@ use Rattle.life_cells.specs.Listed.{listed}
 use Rattle.life_cells.specs.Laws.{listed-append}
 use Rattle.book_parts.specs.declared.settings.Settings.{Settings}
 use Rattle.recipe_turn.specs.Turn.{gliders}
-use Rattle.book_parts.specs.Proper.{IsDelay}
-
--- a delay that is read is what it was
-pub delay_read : (z : ℤ) → IsDelay z → to_z w64 (of_z w64 z) ≡ z
-delay_read z h = let low = h.low in let high = h.high in omega (arith, ints)
-
--- the glider of one delay at a time
-abbrev pub own : Settings → ℤ → ℤ → Plane
-own settings t delay = stream_glider ((t -ℤ settings.approach) -ℤ delay)
+use Rattle.recipe_turn.specs.Gliders.{own}
+use Rattle.recipe_turn.specs.GliderLaws.{gliders_push}
 
 -- a glider that has the cell is one of those that are left
 pub own_here : (settings : Settings) (ds : List ℤ) (t x y : ℤ) (i : ℕ) (d : ℤ) (b : Bool) → i < length ds → b ≡ own settings t (get_or ds i d) x y → b ≡ true →
@@ -33,12 +24,6 @@ own_later settings ds t x y i d b lt e h = at_drop_more (λ xs. gliders settings
 
 pub own_none : (settings : Settings) (ds : List ℤ) (t x y : ℤ) (i : ℕ) → length ds ≤ i → gliders settings (drop i ds) t x y ≡ false
 own_none settings ds t x y i long = at_drop_all (λ xs. gliders settings xs t x y) ds i long
-
--- one more delay is one more glider
-gliders_push : (settings : Settings) (ds : List ℤ) (d t x y : ℤ) → gliders settings (ds ++ d ∷ []) t x y ≡ (gliders settings ds t x y || own settings t d x y)
-gliders_push settings [] d t x y = or-false (own settings t d x y)
-gliders_push settings (e ∷ ds) d t x y =
-    ap (λ b. own settings t e x y || b) (gliders_push settings ds d t x y) ∙ sym (or_assoc (own settings t e x y) (gliders settings ds t x y) (own settings t d x y))
 
 -- the cells of one more glider, joined to those so far
 pub gliders_more : (settings : Settings) (ds : List ℤ) (t : ℤ) (i : ℕ) (d : ℤ) (sofar five all : List Cell) → i < length ds → listed sofar ≡ gliders settings (take i ds) t →

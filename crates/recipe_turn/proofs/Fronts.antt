@@ -1,5 +1,5 @@
 -- The least u of a thrown glider.
-use Rattle.std.proofs.Common.{◌≡◌, ℕ, ◌/◌, ◌≤◌, ℤ, pos, negsuc, ◌+ℤ◌, ◌*ℤ◌, ◌≤ℤ◌, ◌<ℤ◌, sym, subst, ◌∙◌, arith, w64, to_z, of_z}
+use Rattle.std.proofs.Common.{◌≡◌, ℕ, ◌/◌, ◌≤◌, ℤ, pos, negsuc, ◌+ℤ◌, ◌*ℤ◌, ◌≤ℤ◌, ◌<ℤ◌, sym, subst, ◌∙◌, arith}
 use Rattle.std.specs.Int.{int_div_euclid}
 use Rattle.std.proofs.lemmas.Int.{ints}
 use Rattle.book_parts.specs.Limits.{IsCoordinate}
@@ -39,13 +39,6 @@ pub front_holds : (settings : Settings) (stated : TurnEnd) (kind : ℕ) (advance
 front_holds settings stated kind advance lane j u lane_read j_read is same_lane same_j least far =
     let here = least_read lane j u lane_read j_read same_lane same_j least in
     subst (IsInFront settings) (sym is) (omega (arith, ints, far, here))
-
--- a number of a book that is read is what it was
-pub coordinate_read : (z : ℤ) → IsCoordinate z → to_z w64 (of_z w64 z) ≡ z
-coordinate_read z h = let low = h.low in let high = h.high in omega (arith, ints)
-
-pub index_read : (z : ℤ) → IsIndex z → to_z w64 (of_z w64 z) ≡ z
-index_read z h = let low = h.low in let high = h.high in omega (arith, ints)
 
 -- the numbers of a throw
 pub throw_limits : (stated : TurnEnd) (kind : ℕ) (advance lane j : ℤ) → stated ≡ Emit kind advance lane j → IsWithinLimits stated → IsCoordinate advance × (IsCoordinate lane × IsIndex j)

@@ -1,24 +1,35 @@
 -- What looking at one more generation adds to what is known of a bound.
-use Rattle.std.proofs.Common.{◌≡◌, ℕ, ◌+◌, ◌^◌, true, ℤ, pos, neg_ℤ, ◌+ℤ◌, ◌*ℤ◌, ◌≤ℤ◌, List, Option, Some, None, below_more, sym, ap, subst, ◌∙◌, arith}
+use Rattle.std.proofs.Common.{◌≡◌, ℕ, ◌+◌, ◌<◌, ◌^◌, true, false, ℤ, pos, ◌+ℤ◌, ◌*ℤ◌, ◌≤ℤ◌, List, Option, Some, None, below_more, sym, ap, subst, ◌∙◌, arith}
+use Rattle.std.specs.Option.{is_some}
 use Rattle.std.proofs.lemmas.Int.{ints}
 use Rattle.life_plane.specs.Plane.{Plane, run}
 use Rattle.life_cells.specs.declared.bounds.Bounds.{Bounds}
-use Rattle.life_cells.specs.Boxes.{IsInRange, InBox, IsWithin, IsLeastBox}
+use Rattle.life_cells.specs.declared.cell.Cell.{Cell}
+use Rattle.life_cells.specs.Boxes.{IsInRange, InBox, IsLeastBox}
 use Rattle.life_cells.specs.Cells.{Cells, alive, empty}
 use Rattle.life_cells.specs.Laws.{alive-empty}
+use Rattle.life_tiles.specs.BoxRangeLaws.{box_in_range}
 use Rattle.book_parts.specs.declared.settings.Settings.{Settings}
 use Rattle.recipe_turn.specs.Range.{IsWithinReach}
 use Rattle.recipe_turn.specs.Turn.{IsInReach, IsAheadOrOwn}
-use Rattle.recipe_turn.specs.Breaches.{AllKeep, KeepsReach, IsKnown, AreKnown}
+use Rattle.recipe_turn.specs.Bounds.{AllKeep, IsFirstBreaking}
+use Rattle.recipe_turn.specs.Breaches.{KeepsReach, IsKnown, IsFirstBreach, AreKnown}
 use Rattle.recipe_turn.specs.declared.breaches.Breach.{Breach}
 use Rattle.recipe_turn.specs.declared.breaches.Breaches.{Breaches}
-use Rattle.std.proofs.lemmas.Bool.{true≢false}
+use Rattle.std.proofs.lemmas.Bool.{true≢false, false≢true}
 
 -- a generation that keeps the bound
 pub known_kept : (Keeps : ℕ → ℤ → ℤ → Type 0) (start s : Plane) (t : ℕ) (found : Option Breach) → s ≡ run t start → AllKeep (Keeps t) s → IsKnown Keeps start t found →
     IsKnown Keeps start (t + 1) found
 known_kept Keeps start s t None same keeps known = below_more (λ k. AllKeep (Keeps k) (run k start)) t known (subst (AllKeep (Keeps t)) same keeps)
 known_kept Keeps start s t (Some breach) same keeps known = (let lt = known.0 in omega arith, known.1)
+
+-- a generation with a cell that breaks it, and nothing known of one before
+pub first_known : (Keeps : ℕ → ℤ → ℤ → Type 0) (start s : Plane) (t : ℕ) (found : Option Breach) (cell : Cell) → false ≡ is_some found → s ≡ run t start → IsKnown Keeps start t found →
+    IsFirstBreaking (Keeps t) s cell → (t < t + 1) × IsFirstBreach Keeps start t cell
+first_known Keeps start s t (Some breach) cell none same known first = absurd (false≢true none)
+first_known Keeps start s t None cell none same known first =
+    (omega arith, record { before = known; first = subst (λ (p : Plane). IsFirstBreaking (Keeps t) p cell) same first })
 
 -- both bounds are kept
 pub both_kept : (settings : Settings) (delays : List ℤ) (start s : Plane) (t : ℕ) (breaches : Breaches) → s ≡ run t start → AllKeep (IsInReach settings) s →
@@ -45,22 +56,12 @@ clear_keeps settings delays start s t breaches box least near ahead same =
 
 -- ---- the corners of the least box of a set in range
 
-box_in : (box : Bounds) (s : Plane) → IsInRange (2 ^ 41) s → IsLeastBox box s → IsWithin box (record { left = neg_ℤ (pos (2 ^ 41)); top = neg_ℤ (pos (2 ^ 41)); right = pos (2 ^ 41); bottom = pos (2 ^ 41) })
-box_in box s range least =
-    least.least _ (record { each = λ x y h. record { right_of_left = range.x_low x y h; below_top = range.y_low x y h; left_of_right = range.x_high x y h; above_bottom = range.y_high x y h } })
-
 pub left_within : (box : Bounds) (s : Plane) → IsInRange (2 ^ 41) s → IsLeastBox box s → IsWithinReach box.left box.top
 left_within box s range least =
-    let within = box_in box s range least in
-    let live = least.lives.1.1 in
-    let here = least.holds.each least.lives.0 least.lives.1.0 live in
-    let x_high = range.x_high _ _ live in let y_high = range.y_high _ _ live in
-    record { left = within.left; right = omega (arith, ints); above = within.top; below = omega (arith, ints) }
+    let sides = box_in_range (2 ^ 41) box s least range in
+    record { left = sides.left_low; right = sides.left_high; above = sides.top_low; below = sides.top_high }
 
 pub right_within : (box : Bounds) (s : Plane) → IsInRange (2 ^ 41) s → IsLeastBox box s → IsWithinReach box.right box.top
 right_within box s range least =
-    let within = box_in box s range least in
-    let live = least.lives.1.1 in
-    let here = least.holds.each least.lives.0 least.lives.1.0 live in
-    let x_low = range.x_low _ _ live in let y_high = range.y_high _ _ live in
-    record { left = omega (arith, ints); right = within.right; above = within.top; below = omega (arith, ints) }
+    let sides = box_in_range (2 ^ 41) box s least range in
+    record { left = sides.right_low; right = sides.right_high; above = sides.top_low; below = sides.top_high }

@@ -3,7 +3,7 @@ pub mod KindTests
 pub mod Delays
 pub mod Spacing
 pub mod Ranges
-pub mod NamedKinds
+pub mod TurnEnds
 pub mod Fronts
 pub mod KnownBounds
 pub mod Refused

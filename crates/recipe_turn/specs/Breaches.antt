@@ -1,27 +1,19 @@
 -- Where a pattern first breaks a bound on its way.
 -- A bound says of a generation, an x and a y whether that generation may have a live cell there.
-use Rattle.std.specs.Prelude.{◌≡◌, true, ℕ, ◌<◌, ℤ, List}
+use Rattle.std.specs.Prelude.{ℕ, ◌<◌, ℤ, List}
 use Rattle.std.specs.declared.option.Option.{Option}
 use Rattle.std.specs.declared.option.Option.TheVariants.{Some, None}
 use Rattle.life_plane.specs.Plane.{Plane, run}
 use Rattle.life_cells.specs.declared.cell.Cell.{Cell}
 use Rattle.book_parts.specs.declared.settings.Settings.{Settings}
-use Rattle.life_cells.specs.Firsts.{IsFirstOf}
 use Rattle.recipe_turn.specs.Turn.{IsInReach, IsAheadOrOwn}
+use Rattle.recipe_turn.specs.Bounds.{AllKeep, IsFirstBreaking}
 use Rattle.recipe_turn.specs.declared.breaches.Breach.{Breach}
 use Rattle.recipe_turn.specs.declared.breaches.Breaches.{Breaches}
 
 -- the reach, as a bound of each generation
 abbrev pub KeepsReach : Settings → ℕ → ℤ → ℤ → Type 0
 KeepsReach settings t x y = IsInReach settings x y
-
--- each live cell is one of which this holds
-abbrev pub AllKeep : (ℤ → ℤ → Type 0) → Plane → Type 0
-AllKeep Keeps s = (x y : ℤ) → s x y ≡ true → Keeps x y
-
--- the first live cell of which it doesn't
-abbrev pub IsFirstBreaking : (ℤ → ℤ → Type 0) → Plane → Cell → Type 0
-IsFirstBreaking Keeps s cell = IsFirstOf (λ x y. (s x y ≡ true) × ¬ Keeps x y) cell
 
 -- the generations before this one keep a bound
 abbrev pub KeepsBefore : (ℕ → ℤ → ℤ → Type 0) → Plane → ℕ → Type 0

@@ -3,12 +3,13 @@ use Rattle.life_cells.specs.declared.cell.Cell.{Cell}
 use Rattle.life_cells.specs.Firsts.{IsFirstOf}
 use Rattle.std.specs.Prelude.{◌≡◌, true, ℤ, pos, ◌+ℤ◌, ◌-ℤ◌, ◌*ℤ◌, ◌≤ℤ◌}
 use Rattle.life_plane.specs.Plane.{Plane, IsStill}
+use Rattle.recipe_turn.specs.declared.bounds.TheConstants.{KIND_MARGIN}
 use Rattle.book_parts.specs.declared.settings.Settings.{Settings}
 
 -- a cell that a kind may have: u = x - y is at most the wall, and v = x + y at least 10 less half the approach
 pub record IsInPlace (settings : Settings) (x y : ℤ) : Type 0 where
   pub wall : (x -ℤ y) ≤ℤ settings.wall
-  pub tail : pos 20 ≤ℤ (pos 2 *ℤ (x +ℤ y) +ℤ settings.approach)
+  pub tail : KIND_MARGIN ≤ℤ (pos 2 *ℤ (x +ℤ y) +ℤ settings.approach)
 
 -- each live cell is in place
 pub record AreInPlace (settings : Settings) (s : Plane) : Type 0 where

@@ -1,7 +1,10 @@
 -- What makes a kind of elbow valid, and a turn at it sound.
 pub mod Kind
 pub mod Turn
+pub mod Gliders
+pub mod GliderLaws
 pub mod Gaps
+pub mod Bounds
 pub mod Breaches
 pub mod Range
 pub mod Checked

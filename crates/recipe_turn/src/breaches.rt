@@ -11,7 +11,7 @@ ghost use Rattle.recipe_turn.specs.Breaches.{KeepsReach, IsKnown, AreKnown};
 ghost use Rattle.book_parts.specs.Proper.{IsDelay};
 ghost use Rattle.book_parts.specs.declared.limits.TheConstants.{LONGEST_TURN};
 
-use crate::limits::{first_behind, first_past_reach, is_clear};
+use crate::bounds::{Bound, first_breaking, is_clear};
 use book_parts::Settings;
 use life_cells::{Cell, CellSet, NoMemory};
 use life_tiles::Tiles;
@@ -71,7 +71,7 @@ impl Breaches {
     }
 }
 
-// The first breach of the reach once a generation's cells were looked at too.
+/// The first breach of the reach once a generation's cells were looked at too.
 fn reach_breach(
     found: Option<Breach>,
     settings: &Settings,
@@ -86,11 +86,11 @@ fn reach_breach(
     if found.is_some() {
         return found;
     }
-    let cell = first_past_reach(settings, cells)?;
+    let cell = first_breaking(settings, Bound::Reach, cells)?;
     Some(Breach { generation, cell })
 }
 
-// The first breach of the tail once a generation's cells were looked at too.
+/// The first breach of the tail once a generation's cells were looked at too.
 fn tail_breach(
     found: Option<Breach>,
     settings: &Settings,
@@ -108,6 +108,10 @@ fn tail_breach(
     if found.is_some() {
         return found;
     }
-    let cell = first_behind(settings, delays, generation, cells)?;
+    let tail = Bound::Tail {
+        delays,
+        t: generation,
+    };
+    let cell = first_breaking(settings, tail, cells)?;
     Some(Breach { generation, cell })
 }

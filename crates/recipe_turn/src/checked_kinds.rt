@@ -70,7 +70,7 @@ pub fn check_kinds<L: Ledger>(
     }
 }
 
-// Refuses kinds that are not all valid.
+/// Refuses kinds that are not all valid.
 fn test_kinds<L: Ledger>(
     alloc: Global,
     settings: &Settings,

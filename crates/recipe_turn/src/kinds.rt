@@ -1,13 +1,13 @@
 //! Kinds of elbow: still lifes in their place.
 
-ghost use Rattle.std.specs.Prelude.{◌+◌, ◌≤◌, ◌↔◌, IsTrue, IfOk, IfErr, MatchOption};
+ghost use Rattle.std.specs.Prelude.{◌+◌, ◌≤◌, IfOk, IfErr, MatchOption};
 ghost use Rattle.life_cells.specs.Cells.{alive};
-ghost use Rattle.book_parts.specs.Limits.{AreProper, IsPlaced, IsCoordinate};
+ghost use Rattle.book_parts.specs.Limits.{AreProper, IsPlaced};
 ghost use Rattle.book_parts.specs.Proper.{HasLife};
-ghost use Rattle.recipe_turn.specs.Kind.{AreInPlace, IsInPlace, IsFirstOutOfPlace, IsValidKind};
+ghost use Rattle.recipe_turn.specs.Kind.{AreInPlace, IsFirstOutOfPlace, IsValidKind};
 ghost use Rattle.recipe_turn.specs.Refusals.{KindIsRefused};
 
-use crate::diagonals::{ahead_of_tail, u_of};
+use crate::bounds::{Bound, first_breaking};
 use crate::refusal::KindsError;
 use book_parts::Settings;
 use life_cells::{Cell, CellSet};
@@ -16,28 +16,13 @@ use life_tiles::first_change;
 use std::alloc::Global;
 use std::sync::ledger::Ledger;
 
-// Whether a kind may have this cell.
-fn is_in_place(settings: &Settings, cell: Cell) -> bool
-    requires settings { AreProper settings.now }
-    requires x { IsCoordinate cell.x }
-    requires y { IsCoordinate cell.y }
-    ensures { IsTrue result ↔ IsInPlace settings.now cell.x cell.y }
-{
-    u_of(cell) <= settings.wall && 20 <= ahead_of_tail(settings, cell)
-}
-
 /// The first cell that a kind may not have; None exactly where all cells are in place.
 pub fn first_out_of_place(settings: &Settings, cells: &CellSet) -> Option<Cell>
     requires settings { AreProper settings.now }
     requires placed { IsPlaced (alive cells.now) }
     ensures { MatchOption result (AreInPlace settings.now (alive cells.now)) (IsFirstOutOfPlace settings.now (alive cells.now)) }
 {
-    for cell in cells.cells() {
-        if !is_in_place(settings, *cell) {
-            return Some(*cell);
-        }
-    }
-    None
+    first_breaking(settings, Bound::Place, cells)
 }
 
 /// Refuses the kind with this number where its cells are out of place or change.

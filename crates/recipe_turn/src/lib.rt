@@ -1,6 +1,7 @@
 //! Kinds of elbow and turns at them, tested by evolving them.
 #![tactic(auto)]
 
+mod bounds;
 mod breaches;
 pub mod checked_kinds;
 pub mod checked_turn;
@@ -9,7 +10,6 @@ mod evolution;
 mod gaps;
 pub mod kinds;
 pub mod laws;
-mod limits;
 mod named_kinds;
 mod own_gliders;
 pub mod refusal;

@@ -17,7 +17,7 @@ use life_cells::{Cell, CellSet, NoMemory};
 use life_gliders::{Track, glider_cells};
 use std::alloc::Global;
 
-// The cells at time t of the glider of one delay.
+/// The cells at time t of the glider of one delay.
 fn glider_at(settings: &Settings, delay: i64, t: u32) -> [Cell; 5]
     requires settings { AreProper settings.now }
     requires delay { IsDelay delay }
@@ -27,14 +27,14 @@ fn glider_at(settings: &Settings, delay: i64, t: u32) -> [Cell; 5]
     glider_cells(Track::Stream, i64::from(t) - settings.approach - delay)
 }
 
-// Whether the cells have this one.
+/// Whether the cells have this one.
 fn has_cell(cells: &[Cell], cell: Cell) -> bool
     ensures { result ≡ listed cells.now cell.x cell.y }
 {
     cells.contains(&cell)
 }
 
-// Twice v = x + y of a cell, less the index of the glider of one delay at time t.
+/// Twice v = x + y of a cell, less the index of the glider of one delay at time t.
 fn past_glider(settings: &Settings, delay: i64, t: u32, cell: Cell) -> i64
     requires settings { AreProper settings.now }
     requires delay { IsDelay delay }
@@ -45,7 +45,7 @@ fn past_glider(settings: &Settings, delay: i64, t: u32, cell: Cell) -> i64
     ahead_of_tail(settings, cell) + delay - i64::from(t)
 }
 
-// Whether a cell is in the glider of one delay at time t.
+/// Whether a cell is in the glider of one delay at time t.
 fn glider_has(settings: &Settings, delay: i64, t: u32, cell: Cell) -> bool
     requires settings { AreProper settings.now }
     requires delay { IsDelay delay }

@@ -32,7 +32,7 @@ pub(crate) fn stated_end(alloc: Global, end: TurnEnd, next: &CellSet) -> Result<
     }
 }
 
-// The least u = x - y of the glider that is on this lane at this index.
+/// The least u = x - y of the glider that is on this lane at this index.
 fn least_u(lane: i64, j: i64) -> i64
     requires lane { IsCoordinate lane }
     requires j { IsIndex j }

@@ -1,7 +1,8 @@
 use Rattle.lane_clear.specs.Clear.{IsAside}
 use Rattle.lane_clear.specs.Frames.{farthest}
-use Rattle.lane_clear.proofs.FirstFailing.{holds_of_more, holds_of_all, place_in_range, first_failing}
+use Rattle.lane_clear.proofs.FirstFailing.{holds_of_more, holds_of_all, first_failing}
 use Rattle.lane_clear.proofs.looking.first_in_lane.Goals as goal
+use Rattle.life_cone.specs.CellLaws.{place_in_range}
 
 pub is_aside-requires-clause-cell : goal.is_aside-requires-clause-cell
 is_aside-requires-clause-cell c = place_in_range farthest _ c.args.built.now c.loop-cell.cell-index _ c.requires.built c.cells-cell-items.ensures.order c.loop-cell-test.true

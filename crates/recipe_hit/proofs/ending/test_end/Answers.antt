@@ -1,5 +1,5 @@
 use Rattle.std.proofs.Common.{refl}
-use Rattle.recipe_hit.proofs.Ends.{first_different}
+use Rattle.life_tiles.specs.CourseLaws.{first_different}
 use Rattle.recipe_hit.proofs.ending.test_end.Goals as goal
 
 pub returns-in-Some-clause-refusal : goal.returns-in-Some-clause-refusal

@@ -10,9 +10,10 @@ use Rattle.recipe_hit.specs.declared.hit.Hit.{Hit}
 use Rattle.recipe_hit.specs.Sound.{AreHits, what_is_left}
 use Rattle.recipe_hit.specs.Checked.{AreSmallFrames}
 use Rattle.recipe_hit.proofs.InTurn.{left_is, small_after, range_after, hand_range}
-use Rattle.recipe_hit.proofs.Missing.{lane_read, missed_here, turns_more}
+use Rattle.recipe_hit.proofs.Missing.{missed_here, turns_more}
 use Rattle.recipe_hit.proofs.in_turn.strike_in_turn.Goals as goal
 use Rattle.recipe_hit.specs.Strike.{beyond}
+use Rattle.book_parts.specs.LimitLaws.{coordinate_read}
 
 pub loop-place-init : goal.loop-place-init
 loop-place-init g c = record {
@@ -43,7 +44,7 @@ returns-in_err-next-clause-refusal g c =
     let on = each_at IsCoordinate c.args.lanes.now c.requires.lanes c.loop-place.place (pos 0) c.loop-place-test.true in
     let same = err_from_is_err_and c.from_residual.result c.from_residual.ensures.1 in
     rw (same.1, same.2) (missed_here (alive c.args.hand.now) (alive c.left_by.result.now) c.args.lanes.now c.loop-place.hits.items c.loop-place.place (pos 0) _ c.loop-place-test.true
-    c.loop-place.invariant.hits (left_is (alive c.args.hand.now) (alive c.left_by.result.now) c.loop-place.hits.items _ c.left_by.ensures c.deref.ensures.value) (lane_read _ on) c.in_err-next.field-0.0 c.in_err-next.ensures.refusal)
+    c.loop-place.invariant.hits (left_is (alive c.args.hand.now) (alive c.left_by.result.now) c.loop-place.hits.items _ c.left_by.ensures c.deref.ensures.value) (coordinate_read _ on) c.in_err-next.field-0.0 c.in_err-next.ensures.refusal)
 
 pub loop-place-preserved : goal.loop-place-preserved
 loop-place-preserved g c =
@@ -55,7 +56,7 @@ loop-place-preserved g c =
     let hit = c.in_ok-next.next in
     let lane : ℤ = to_z w64 (of_z w64 (get_or c.args.lanes.now place (pos 0))) in
     let on = each_at IsCoordinate c.args.lanes.now c.requires.lanes place (pos 0) c.loop-place-test.true in
-    let read = lane_read (get_or c.args.lanes.now place (pos 0)) on in
+    let read = coordinate_read (get_or c.args.lanes.now place (pos 0)) on in
     let left = left_is start struck hits _ c.left_by.ensures c.deref.ensures.value in
     let range = subst (IsInRange (farthest + beyond * place)) (sym left) c.loop-place.invariant.range in
     let is = c.in_ok-next.ensures.hit in

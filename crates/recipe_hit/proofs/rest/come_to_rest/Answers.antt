@@ -1,10 +1,11 @@
 use Rattle.std.proofs.Common.{arith}
 use Rattle.life_cells.specs.Cells.{alive}
 use Rattle.recipe_hit.specs.Strike.{ever}
-use Rattle.recipe_hit.proofs.Joining.{box_of_set}
-use Rattle.recipe_hit.proofs.Resting.{course_range, course_more, not_still_now, moves_more, ever_more}
+use Rattle.recipe_hit.proofs.SetBox.{box_of_set}
+use Rattle.recipe_hit.proofs.Resting.{course_range, not_still_now, moves_more, ever_more}
 use Rattle.recipe_hit.proofs.Comparisons.{holds_if_true}
 use Rattle.recipe_hit.proofs.rest.come_to_rest.Goals as goal
+use Rattle.life_tiles.specs.CourseLaws.{course_more}
 
 pub step-requires : goal.step-requires
 step-requires g c = course_range (alive c.args.start.now) _ c.loop-generation.generation c.requires.range (omega arith) c.loop-generation.invariant.now

@@ -4,7 +4,7 @@ use Rattle.life_cells.specs.Cells.{alive}
 use Rattle.life_cells.specs.Laws.{alive-empty}
 use Rattle.book_parts.specs.Limits.{IsPlaced}
 use Rattle.book_parts.specs.Proper.{IsProperKind}
-use Rattle.recipe_turn.proofs.NamedKinds.{kind_placed, next_placed}
+use Rattle.book_parts.specs.KindLaws.{kind_placed, next_placed}
 use Rattle.recipe_turn.proofs.checked_turn.check_turn.Goals as goal
 
 pub next_cells-next-requires-clause-none : goal.next_cells-next-requires-clause-none

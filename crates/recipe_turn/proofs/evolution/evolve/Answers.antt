@@ -2,8 +2,9 @@ use Rattle.std.proofs.Common.{◌≡◌, ◌^◌, ◌∙◌, ap, subst, arith}
 use Rattle.life_plane.specs.Plane.{run}
 use Rattle.life_cells.specs.Cells.{alive}
 use Rattle.recipe_turn.specs.Breaches.{AreKnown}
-use Rattle.recipe_turn.proofs.Courses.{course_range, course_more}
+use Rattle.recipe_turn.proofs.Courses.{course_range}
 use Rattle.recipe_turn.proofs.evolution.evolve.Goals as goal
+use Rattle.life_tiles.specs.CourseLaws.{course_more}
 
 pub after-requires-clause-range : goal.after-requires-clause-range
 after-requires-clause-range g c = course_range (alive c.args.start.now) _ c.loop-generation.generation (2 ^ 41) c.requires.range (omega arith) c.loop-generation.invariant.now (omega arith)

@@ -1,4 +1,4 @@
-use Rattle.recipe_turn.proofs.NamedKinds.{kind_at}
+use Rattle.book_parts.specs.KindLaws.{kind_at}
 use Rattle.recipe_turn.proofs.named_kinds.kind_cells.Goals as goal
 
 pub returns : goal.returns

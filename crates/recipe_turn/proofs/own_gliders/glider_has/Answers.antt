@@ -2,8 +2,10 @@ use Rattle.std.proofs.Common.{◌∙◌, ◌-ℤ◌, pos, ap, arith, w64, to_z, 
 use Rattle.std.proofs.lemmas.Int.{ints}
 use Rattle.life_plane.specs.Plane.{Plane}
 use Rattle.life_plane.specs.NumberLaws.{lt_from_test}
-use Rattle.recipe_turn.proofs.Delays.{off_glider, delay_read, own}
+use Rattle.recipe_turn.proofs.Delays.{off_glider}
 use Rattle.recipe_turn.proofs.own_gliders.glider_has.Goals as goal
+use Rattle.book_parts.specs.LimitLaws.{delay_read}
+use Rattle.recipe_turn.specs.Gliders.{own}
 
 pub returns-then-past-lt1 : goal.returns-then-past-lt1
 returns-then-past-lt1 c =

@@ -1,8 +1,10 @@
 use Rattle.std.proofs.Common.{◌∙◌, pos, subst, sym, ap, refl}
 use Rattle.life_plane.specs.ListLaws.{each_at}
 use Rattle.book_parts.specs.Proper.{IsDelay}
-use Rattle.recipe_turn.proofs.Delays.{delay_read, own, own_here, own_later, own_none}
+use Rattle.recipe_turn.proofs.Delays.{own_here, own_later, own_none}
 use Rattle.recipe_turn.proofs.own_gliders.is_own.Goals as goal
+use Rattle.book_parts.specs.LimitLaws.{delay_read}
+use Rattle.recipe_turn.specs.Gliders.{own}
 
 pub loop-delay-init : goal.loop-delay-init
 loop-delay-init c = refl

@@ -6,8 +6,10 @@ use Rattle.life_cells.specs.Listed.{listed}
 use Rattle.life_cells.specs.Laws.{alive-from_list}
 use Rattle.life_plane.specs.ListLaws.{each_at}
 use Rattle.book_parts.specs.Proper.{IsDelay}
-use Rattle.recipe_turn.proofs.Delays.{delay_read, own, gliders_more, gliders_all}
+use Rattle.recipe_turn.proofs.Delays.{gliders_more, gliders_all}
 use Rattle.recipe_turn.proofs.own_gliders.starting_gliders.Goals as goal
+use Rattle.book_parts.specs.LimitLaws.{delay_read}
+use Rattle.recipe_turn.specs.Gliders.{own}
 
 pub loop-delay-init : goal.loop-delay-init
 loop-delay-init c = ap listed c.new-cells.ensures.items

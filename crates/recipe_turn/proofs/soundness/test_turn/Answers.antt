@@ -4,8 +4,9 @@ use Rattle.life_cells.specs.Cells.{alive}
 use Rattle.life_cells.specs.Boxes.{IsInRange}
 use Rattle.recipe_turn.specs.Turn.{AreSpaced}
 use Rattle.recipe_turn.proofs.Ranges.{start_in_range}
-use Rattle.recipe_turn.proofs.Courses.{start_is, first_different}
+use Rattle.recipe_turn.proofs.Courses.{start_is}
 use Rattle.recipe_turn.proofs.soundness.test_turn.Goals as goal
+use Rattle.life_tiles.specs.CourseLaws.{first_different}
 
 pub evolve-requires-clause-range : goal.evolve-requires-clause-range
 evolve-requires-clause-range g c =

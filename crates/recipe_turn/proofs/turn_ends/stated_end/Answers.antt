@@ -2,9 +2,10 @@ use Rattle.std.proofs.Common.{◌∙◌, sym, ap}
 use Rattle.life_cells.specs.Cells.{alive}
 use Rattle.life_cells.specs.Laws.{alive-empty}
 use Rattle.recipe_turn.specs.Turn.{turn_end}
-use Rattle.recipe_turn.proofs.NamedKinds.{thrown_end}
-use Rattle.recipe_turn.proofs.Fronts.{throw_limits, coordinate_read, index_read}
+use Rattle.recipe_turn.proofs.TurnEnds.{thrown_end}
+use Rattle.recipe_turn.proofs.Fronts.{throw_limits}
 use Rattle.recipe_turn.proofs.turn_ends.stated_end.Goals as goal
+use Rattle.book_parts.specs.LimitLaws.{coordinate_read, index_read}
 
 pub returns-in-Close : goal.returns-in-Close
 returns-in-Close c = ap alive c.empty.ensures ∙ alive-empty ∙ ap (λ e. turn_end e (alive c.args.next.now)) (sym c.in-Close.is)

@@ -1,7 +1,8 @@
 use Rattle.std.proofs.Common.{arith}
 use Rattle.std.proofs.lemmas.Int.{ints}
-use Rattle.recipe_turn.proofs.Fronts.{front_fails, front_holds, throw_limits, coordinate_read, index_read}
+use Rattle.recipe_turn.proofs.Fronts.{front_fails, front_holds, throw_limits}
 use Rattle.recipe_turn.proofs.turn_ends.test_front.Goals as goal
+use Rattle.book_parts.specs.LimitLaws.{coordinate_read, index_read}
 
 pub returns-then-u-settings-clause-refusal : goal.returns-then-u-settings-clause-refusal
 returns-then-u-settings-clause-refusal c =

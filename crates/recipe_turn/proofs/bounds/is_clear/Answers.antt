@@ -1,7 +1,7 @@
 use Rattle.std.proofs.Common.{pos, ◌-ℤ◌, ◌≤ℤ◌, arith, w64, to_z, of_z}
 use Rattle.std.proofs.lemmas.Int.{ints}
 use Rattle.life_plane.specs.NumberLaws.{le_from_test}
-use Rattle.recipe_turn.proofs.limits.is_clear.Goals as goal
+use Rattle.recipe_turn.proofs.bounds.is_clear.Goals as goal
 
 pub returns-then-u_of-settings-clause-reach : goal.returns-then-u_of-settings-clause-reach
 returns-then-u_of-settings-clause-reach c =

@@ -1,7 +1,7 @@
 use Rattle.std.proofs.Common.{◌-ℤ◌, ◌≤ℤ◌, arith, w64, to_z, of_z}
 use Rattle.std.proofs.lemmas.Int.{ints}
 use Rattle.recipe_turn.proofs.KindTests.{tail_decides}
-use Rattle.recipe_turn.proofs.kinds.is_in_place.Goals as goal
+use Rattle.recipe_turn.proofs.bounds.is_in_place.Goals as goal
 
 pub returns-then-u_of-settings : goal.returns-then-u_of-settings
 returns-then-u_of-settings c =
