@@ -2,7 +2,7 @@
 use Rattle.std.proofs.Common.{◌≡◌, ◌≢◌, ℕ, ◌≤◌, ◌^◌, Bool, true, false, ℤ, pos, ◌+ℤ◌, ◌-ℤ◌, FitsSigned, negsuc, List, [], ◌∷◌, if◌then◌else◌, refl, sym, ap, ◌∙◌, arith, codes}
 use mir.Syntax.{w64}
 use Rattle.std.proofs.lemmas.Int.{ints}
-use Rattle.std.proofs.lemmas.Bool.{false≢true, or_left}
+use Rattle.std.proofs.lemmas.Bool.{or_left}
 use Rattle.std.proofs.lemmas.List.{append-nil}
 use Rattle.std.proofs.lemmas.List.Sums.{sum_by_push}
 use Rattle.life_plane.specs.Plane.{Plane, nothing, shift}
@@ -24,6 +24,7 @@ use Rattle.book_lines.specs.Values.{IsSmall, IsBodyAt}
 use Rattle.book_lines.specs.Values.Level.{Numbers, Bodies, Whole}
 use Rattle.book_lines.specs.Faults.{StopsBetween}
 use Rattle.rle_items.specs.NumberLaws.{value_short}
+use Rattle.book_parts.specs.KindLaws.{empty_dead}
 
 abbrev pub OneMeaning : Type 0
 OneMeaning = (word : List ℕ) (s t : Plane) → WordMeans word s → WordMeans word t → s ≡ t
@@ -36,10 +37,6 @@ NoRefusal = (word : List ℕ) (e : BodyError) → IsFineWord word → StopsWith 
 
 many_other : (n : ℕ) → refusal.TooMany n ≢ refusal.Memory
 many_other n e = absurd (cc e)
-
--- no cell of the empty set lives
-pub empty_dead : (s : Cells) (x y : ℤ) → s ≡ empty → alive s x y ≡ true → ⊥
-empty_dead s x y e h = false≢true (sym (ap (λ (p : Plane). p x y) (ap alive e ∙ alive-empty)) ∙ h)
 
 -- a set that is not empty has a live cell
 pub some_lives : (s : Cells) → (s ≡ empty → ⊥) → (x : ℤ) × ((y : ℤ) × (alive s x y ≡ true))

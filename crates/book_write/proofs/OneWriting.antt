@@ -1,6 +1,5 @@
 -- A book has one canonical text.
-use Rattle.std.proofs.Common.{◌≡◌, ℕ, neg_ℤ, List, [], ◌∷◌, ◌++◌, map, refl, sym, ap, ◌∙◌, subst, inl, inr, codes}
-use Rattle.std.specs.List.{AllZip}
+use Rattle.std.proofs.Common.{◌≡◌, ℕ, neg_ℤ, List, [], ◌∷◌, ◌++◌, map, sym, ap, ◌∙◌, subst, inl, inr, codes}
 use Rattle.std.specs.Fmt.{signed_decimal}
 use Rattle.life_plane.specs.Plane.{Plane, nothing, shift}
 use Rattle.life_cells.specs.Cells.{Cells, alive}
@@ -13,6 +12,7 @@ use Rattle.book_parts.specs.Said.{Said}
 use Rattle.book_write.specs.Laid.{text_of}
 use Rattle.book_write.specs.Parts.{version_words, settings_words, IsBodyWord, IsHandLine, IsPlacedText, IsKindLine, start_words, turn_words, IsProductText, hand_words, IsSalvoLine}
 use Rattle.book_write.specs.Canonical.{IsBookText}
+use Rattle.book_parts.specs.ListLaws.{one_each}
 
 -- a set has one body word, as life_rle tells
 module _ (one_word : (s : Plane) (word other : List ℕ) → IsBodyText s word → IsBodyText s other → word ≡ other) where
@@ -48,15 +48,6 @@ module _ (one_word : (s : Plane) (word other : List ℕ) → IsBodyText s word �
   one_salvo salvo ws vs h k =
       let same = one_product (alive salvo.product) h.product k.product h.product_is k.product_is in
       h.words_are ∙ (λ i. codes "salvo" ∷ (salvo.name ∷ (codes ":" ∷ (map signed_decimal salvo.lanes ++ (codes ":" ∷ (same i ++ (codes ":" ∷ hand_words salvo.hand))))))) ∙ sym k.words_are
-
-  -- lists that go with one list by a relation of one answer
-  one_each : {X Y : Type 0} (R : X → Y → Type 0) → ((x : X) (y z : Y) → R x y → R x z → y ≡ z) → (xs : List X) (ys zs : List Y) → AllZip R xs ys → AllZip R xs zs → ys ≡ zs
-  one_each R f [] [] [] h k = refl
-  one_each R f [] (y ∷ ys) zs h k = absurd h
-  one_each R f [] [] (z ∷ zs) h k = absurd k
-  one_each R f (x ∷ xs) [] zs h k = absurd h
-  one_each R f (x ∷ xs) (y ∷ ys) [] h k = absurd k
-  one_each R f (x ∷ xs) (y ∷ ys) (z ∷ zs) h k = λ i. f x y z h.0 k.0 i ∷ one_each R f xs ys zs h.1 k.1 i
 
   pub one_text : (book : Said) (text other : List ℕ) → IsBookText book text → IsBookText book other → text ≡ other
   one_text book text other h k =

@@ -1,8 +1,8 @@
 -- The words of the command line, one by one.
-use Rattle.std.proofs.Common.{◌≡◌, ℕ, ◌+◌, ◌<◌, List, [], ◌∷◌, length, get_or, refl, sym, ap, ◌∙◌, arith, Global, String}
+use Rattle.std.proofs.Common.{◌≡◌, ℕ, ◌+◌, ◌<◌, List, [], ◌∷◌, length, get_or, refl, sym, ap, subst, inl, arith, Global, String, codes}
 use Rattle.std.specs.Prelude.{◌≢◌, Some}
 use Rattle.std.specs.String.{string_bytes}
-use Rattle.life_cli.specs.Words.{Words, texts_of, takes, BeginWith, AreMiscounted}
+use Rattle.life_cli.specs.Words.{Words, texts_of, Usage, usage_of, replay, generations, Spells, BeginWith, AreMiscounted, AreMisnumbered, IsFirstMisspelt}
 
 -- the texts behind the first word
 abbrev pub rest_of : Words → List (List ℕ)
@@ -25,8 +25,20 @@ texts_of_three (u ∷ (v ∷ (w ∷ []))) a b c h = refl
 texts_of_three (u ∷ (v ∷ (w ∷ (x ∷ ws)))) a b c h = absurd (omega arith)
 
 -- another number of words than the command takes
-pub miscounted : (ws : Words) (first : List ℕ) (many : ℕ) → (rest : List (List ℕ)) × BeginWith ws first rest → takes first ≡ Some many → length ws ≢ many + 1 → AreMiscounted ws
-miscounted ws first many (rest, b) known other =
+pub miscounted : (ws : Words) (first : List ℕ) (usage : Usage) → (rest : List (List ℕ)) × BeginWith ws first rest → usage_of first ≡ Some usage → length ws ≢ usage.takes + 1 → AreMiscounted ws
+miscounted ws first usage (rest, b) known other =
     let e = length_texts ws in
     let f : length (texts_of ws) ≡ length (first ∷ rest) = ap length b.whole in
-    record { first = first; rest = rest; begin = b; many = many; known = known; other = λ same. other (omega arith) }
+    record { usage = usage; are = record { first = first; rest = rest; begin = b; known = known }; other = λ same. other (omega arith) }
+
+-- behind a pattern stands no number of generations
+pub misnumbered : (ws : Words) (first pattern text : List ℕ) → (rest : List (List ℕ)) × BeginWith ws (codes "replay") rest → texts_of ws ≡ first ∷ (pattern ∷ (text ∷ [])) →
+    ((n : ℕ) → Spells generations text n → ⊥) → AreMisnumbered ws generations.place
+misnumbered ws first pattern text (rest, b) whole none =
+    let same : rest ≡ pattern ∷ (text ∷ []) = let begin = b.whole in cc in
+    record {
+      usage = replay;
+      are = record { first = codes "replay"; rest = rest; begin = b; known = refl };
+      counted = ap length same;
+      misspelt = subst (λ (texts : List (List ℕ)). IsFirstMisspelt texts (generations ∷ []) generations.place) (sym whole) (inl (λ h. none h.0 h.1, refl));
+    }

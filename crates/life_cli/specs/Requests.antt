@@ -1,7 +1,7 @@
 -- What the words ask for.
 use Rattle.std.specs.Prelude.{◌≡◌, ℕ, List, [], ◌∷◌, codes}
 use Rattle.std.specs.declared.option.Option.TheVariants.{None}
-use Rattle.life_cli.specs.Words.{Words, IsGenerations, texts_of, first_dash}
+use Rattle.life_cli.specs.Words.{Words, Spells, generations, texts_of, first_dash}
 use Rattle.life_cli.specs.declared.words.Command.{Command}
 use Rattle.life_cli.specs.declared.words.Command.TheVariants as command
 
@@ -15,7 +15,7 @@ pub data Request : Type 0 where
 abbrev pub AreWordsOf : Request → List (List ℕ) → Type 0
 AreWordsOf (Check book) texts = texts ≡ codes "check" ∷ (book ∷ [])
 AreWordsOf (Compile book target) texts = texts ≡ codes "compile" ∷ (book ∷ (target ∷ []))
-AreWordsOf (Replay pattern n) texts = (number : List ℕ) × ((texts ≡ codes "replay" ∷ (pattern ∷ (number ∷ []))) × IsGenerations number n)
+AreWordsOf (Replay pattern n) texts = (number : List ℕ) × ((texts ≡ codes "replay" ∷ (pattern ∷ (number ∷ []))) × Spells generations number n)
 
 -- the words ask for this: they are its words, and none begins with `-`
 pub record Ask (words : Words) (request : Request) : Type 0 where

@@ -17,7 +17,7 @@ use life_steps::Steps;
 use std::alloc::Global;
 use std::sync::ledger::Ledger;
 
-// The text that answers `check` for a book that was read.
+/// The text that answers `check` for a book that was read.
 fn report_on<L: Ledger>(
     alloc: Global,
     book: RawBook,

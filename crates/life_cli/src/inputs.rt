@@ -19,7 +19,7 @@ use life_io::Depot;
 use life_rle::{Pattern, RleError, read_rle};
 use std::alloc::Global;
 
-// The book of a text.
+/// The book of a text.
 fn book_of(alloc: Global, text: &[u8]) -> Result<RawBook, Status>
     ensures ok { IfOk result (λ book. ReadsAsBook text.now book) }
     ensures proper { IfOk result (λ book. IsProperBook book) }
@@ -32,7 +32,7 @@ fn book_of(alloc: Global, text: &[u8]) -> Result<RawBook, Status>
     }
 }
 
-// The pattern of a text.
+/// The pattern of a text.
 fn pattern_of(alloc: Global, text: &[u8], which: Which) -> Result<Pattern, Status>
     ensures ok { IfOk result (λ pattern. ReadsAsPattern text.now (alive pattern.cells)) }
     ensures range { IfOk result (λ pattern. IsInRange (2 ^ 40) (alive pattern.cells)) }

@@ -1,4 +1,4 @@
-//! Laws of requests: words ask for one at most and aren't refused then, and stages that pass don't refuse.
+//! Laws of requests: words ask for one at most and aren't refused then, or else have one refusal at most, and stages that pass don't refuse.
 
 ghost use Rattle.std.specs.Prelude.{◌≡◌, List, Some};
 ghost use Rattle.life_io.specs.Texts.{HeldText};
@@ -20,6 +20,11 @@ use recipe_book::laws::{sound_turns_are_one, taken_books_have_no_refusal};
 /// Words ask for one request at most.
 pub fn words_ask_for_one_request()
     ensures { (words : Words) (a b : Request) → Ask words a → Ask words b → a ≡ b }
+{}
+
+/// Words have one refusal at most.
+pub fn words_have_one_refusal()
+    ensures { (words : Words) (e f : WordsError) → AreRefused words e → AreRefused words f → e ≡ f }
 {}
 
 /// Words that ask for a request are not refused.

@@ -129,7 +129,7 @@ fn plan_text(alloc: Global, stop: PlanError) -> Result<String, AllocError>
     }
 }
 
-// The text of a status; Done and Memory have none.
+/// The text of a status; Done and Memory have none.
 fn status_text(alloc: Global, status: Status) -> Result<String, AllocError>
     ensures { IfOk result (λ text. string_bytes text ≡ status_text status) }
 {

@@ -21,7 +21,7 @@ use life_tiles::Tiles;
 use std::alloc::Global;
 use std::sync::ledger::Ledger;
 
-// Runs a pattern for some generations; where nothing changes any more it stops sooner.
+/// Runs a pattern for some generations; where nothing changes any more it stops sooner.
 fn run_tiles<L: Ledger>(
     tiles: &mut Tiles,
     generations: u32,
@@ -40,7 +40,7 @@ fn run_tiles<L: Ledger>(
     Ok(())
 }
 
-// A later generation of a pattern.
+/// A later generation of a pattern.
 fn generation<L: Ledger>(
     alloc: Global,
     cells: &CellSet,
@@ -58,7 +58,7 @@ fn generation<L: Ledger>(
     tiles.to_cells()
 }
 
-// The text of a later generation of a pattern.
+/// The text of a later generation of a pattern.
 fn text_of_generation<L: Ledger>(
     alloc: Global,
     cells: &CellSet,

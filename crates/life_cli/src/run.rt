@@ -19,7 +19,7 @@ use life_steps::Steps;
 use std::alloc::Global;
 use std::sync::ledger::Ledger;
 
-// Puts a whole text.
+/// Puts a whole text.
 fn put_text<O: Sink>(out: &mut O, text: &[u8]) -> Result<(), Status>
     ensures ok { OnOk result (O.written out.new ≡ append_known (O.written out.old) text.now) }
     ensures err { IfErr result (λ status. PuttingRefuses (O.written out.old) (O.written out.new) text.now (O.faults out.old) (O.faults out.new) status) }
@@ -35,7 +35,7 @@ fn put_text<O: Sink>(out: &mut O, text: &[u8]) -> Result<(), Status>
     }
 }
 
-// Runs the command that the words say, up to its answer on `out`.
+/// Runs the command that the words say, up to its answer on `out`.
 fn run_command<D: Depot, O: Sink, L: Ledger>(
     alloc: Global,
     words: &[String],
@@ -68,7 +68,7 @@ fn run_command<D: Depot, O: Sink, L: Ledger>(
     }
 }
 
-// What a status becomes where there is no memory for its line.
+/// What a status becomes where there is no memory for its line.
 fn without_line(status: Status) -> Status
     ensures { result ≡ without_line status }
 {
@@ -78,7 +78,7 @@ fn without_line(status: Status) -> Status
     }
 }
 
-// Puts the line of a status that has one.
+/// Puts the line of a status that has one.
 fn put_line<E: Sink>(alloc: Global, status: Status, err: &mut E) -> Status
     requires { HasLine status }
     ensures same { (result ≡ status) ⊎ (result ≡ without_line status) }
@@ -96,7 +96,7 @@ fn put_line<E: Sink>(alloc: Global, status: Status, err: &mut E) -> Status
     }
 }
 
-// Puts the line of a status, where it has one. Want of memory for the line is a status of its own, but after a write fault.
+/// Puts the line of a status, where it has one. Want of memory for the line is a status of its own, but after a write fault.
 fn report<E: Sink>(alloc: Global, status: Status, err: &mut E) -> Status
     ensures same { (result ≡ status) ⊎ (result ≡ without_line status) }
     ensures done { status ≡ Done → result ≡ Done }

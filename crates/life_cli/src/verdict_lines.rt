@@ -68,7 +68,7 @@ fn verdict_text(alloc: Global, verdict: Verdict) -> Result<String, AllocError>
     }
 }
 
-// Appends the titles of turns.
+/// Appends the titles of turns.
 fn push_turn_titles(
     alloc: Global,
     titles: &mut Vec<String>,
@@ -84,7 +84,7 @@ fn push_turn_titles(
     Ok(())
 }
 
-// Appends the titles of salvos.
+/// Appends the titles of salvos.
 fn push_salvo_titles(
     alloc: Global,
     titles: &mut Vec<String>,
@@ -110,7 +110,7 @@ pub(crate) fn titles_of(alloc: Global, book: &RawBook) -> Result<Vec<String>, Al
     Ok(titles)
 }
 
-// Whether a verdict accepts.
+/// Whether a verdict accepts.
 fn is_accepted(verdict: Verdict) -> bool
     ensures { result ≡ is_accepted verdict }
 {
@@ -120,7 +120,7 @@ fn is_accepted(verdict: Verdict) -> bool
     }
 }
 
-// How many verdicts accept.
+/// How many verdicts accept.
 fn accepted_of(verdicts: &[Verdict]) -> usize
     ensures { result ≡ accepted verdicts.now }
 {
@@ -130,7 +130,7 @@ fn accepted_of(verdicts: &[Verdict]) -> usize
         .count()
 }
 
-// The lines of the entries with these titles.
+/// The lines of the entries with these titles.
 fn lines_of(alloc: Global, titles: &[String], verdicts: &[Verdict]) -> Result<String, AllocError>
     ensures { IfOk result (λ text. string_bytes text ≡ verdict_lines (map string_bytes titles.now) verdicts.now) }
 {
@@ -147,7 +147,7 @@ fn lines_of(alloc: Global, titles: &[String], verdicts: &[Verdict]) -> Result<St
     Ok(text)
 }
 
-// The last line.
+/// The last line.
 fn sum_line(alloc: Global, verdicts: &[Verdict]) -> Result<String, AllocError>
     ensures { IfOk result (λ text. string_bytes text ≡ sum_line verdicts.now) }
 {

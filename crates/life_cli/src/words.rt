@@ -1,10 +1,13 @@
 //! The words of the command line.
 
 ghost use Rattle.std.specs.Prelude.{◌≡◌, ◌≢◌, ℕ, List, ◌∷◌, [], length, IfOk, IfErr, IfSome, IfNone, IsTrue, ◌↔◌, codes};
-ghost use Rattle.life_cli.specs.Words.{AreRefused, BeginWith, IsGenerations, first_dash, has_dash, has_plus, texts_of};
+ghost use Rattle.life_cli.specs.Words.{AreRefused, BeginWith, Spells, generations, first_dash, has_dash, has_plus, texts_of};
 ghost use Rattle.life_cli.specs.Requests.{Ask, request_of};
 
 use thiserror::Error;
+
+/// The place of the number of generations among the words of `replay`, counted from 1.
+const GENERATIONS_PLACE: usize = 3;
 
 /// The most digits of a number of generations.
 const MOST_DIGITS: usize = 10;
@@ -59,14 +62,14 @@ pub enum Command<'a> {
     },
 }
 
-// The place of the first word that begins with a dash, counted from 0.
+/// The place of the first word that begins with a dash, counted from 0.
 fn first_dash(words: &[String]) -> Option<usize>
     ensures { result ≡ first_dash words.now }
 {
     words.iter().position(|word| has_dash(word.as_bytes()))
 }
 
-// Whether the text begins with a dash.
+/// Whether the text begins with a dash.
 fn has_dash(text: &[u8]) -> bool
     ensures { result ≡ has_dash text.now }
 {
@@ -76,14 +79,14 @@ fn has_dash(text: &[u8]) -> bool
     }
 }
 
-// Whether a word is this one.
+/// Whether a word is this one.
 fn is_word(word: &str, other: &str) -> bool
     ensures { IsTrue result ↔ (word.now ≡ other.now) }
 {
     word == other
 }
 
-// The word behind the first, where there is just one.
+/// The word behind the first, where there is just one.
 fn one_behind(words: &[String]) -> Option<&str>
     ensures some { IfSome result (λ one. (first : List ℕ) × (texts_of words.now ≡ first ∷ (one.now ∷ []))) }
     ensures none { IfNone result (length words.now ≢ 2) }
@@ -94,7 +97,7 @@ fn one_behind(words: &[String]) -> Option<&str>
     Some(words[1].as_str())
 }
 
-// The two words behind the first, where there are just two.
+/// The two words behind the first, where there are just two.
 fn two_behind(words: &[String]) -> Option<(&str, &str)>
     ensures some { IfSome result (λ two. (first : List ℕ) × (texts_of words.now ≡ first ∷ (two.0.now ∷ (two.1.now ∷ [])))) }
     ensures none { IfNone result (length words.now ≢ 3) }
@@ -105,7 +108,7 @@ fn two_behind(words: &[String]) -> Option<(&str, &str)>
     Some((words[1].as_str(), words[2].as_str()))
 }
 
-// Whether the text begins with a plus, which a number may not.
+/// Whether the text begins with a plus, which a number may not.
 fn has_plus(text: &[u8]) -> bool
     ensures { result ≡ has_plus text.now }
 {
@@ -115,10 +118,10 @@ fn has_plus(text: &[u8]) -> bool
     }
 }
 
-// The number of generations that a word spells.
+/// The number of generations that a word spells.
 fn generations_of(word: &str) -> Option<u32>
-    ensures some { IfSome result (λ n. IsGenerations word.now n) }
-    ensures none { IfNone result ((n : ℕ) → IsGenerations word.now n → ⊥) }
+    ensures some { IfSome result (λ n. Spells generations word.now n) }
+    ensures none { IfNone result ((n : ℕ) → Spells generations word.now n → ⊥) }
 {
     if word.len() > MOST_DIGITS || has_plus(word.as_bytes()) {
         return None;
@@ -129,7 +132,7 @@ fn generations_of(word: &str) -> Option<u32>
     }
 }
 
-// The command `check` of these words, the first of which names it.
+/// The command `check` of these words, the first of which names it.
 fn read_check(words: &[String]) -> Result<Command<'_>, WordsError>
     requires { (rest : List (List ℕ)) × BeginWith words.now (codes "check") rest }
     ensures ok { IfOk result (λ command. Ask words.now (request_of command)) }
@@ -141,7 +144,7 @@ fn read_check(words: &[String]) -> Result<Command<'_>, WordsError>
     }
 }
 
-// The command `compile` of these words, the first of which names it.
+/// The command `compile` of these words, the first of which names it.
 fn read_compile(words: &[String]) -> Result<Command<'_>, WordsError>
     requires { (rest : List (List ℕ)) × BeginWith words.now (codes "compile") rest }
     ensures ok { IfOk result (λ command. Ask words.now (request_of command)) }
@@ -153,7 +156,7 @@ fn read_compile(words: &[String]) -> Result<Command<'_>, WordsError>
     }
 }
 
-// The command `replay` of these words, the first of which names it.
+/// The command `replay` of these words, the first of which names it.
 fn read_replay(words: &[String]) -> Result<Command<'_>, WordsError>
     requires { (rest : List (List ℕ)) × BeginWith words.now (codes "replay") rest }
     ensures ok { IfOk result (λ command. Ask words.now (request_of command)) }
@@ -167,7 +170,9 @@ fn read_replay(words: &[String]) -> Result<Command<'_>, WordsError>
             pattern,
             generations,
         }),
-        None => Err(WordsError::BadNumber { place: 3 }),
+        None => Err(WordsError::BadNumber {
+            place: GENERATIONS_PLACE,
+        }),
     }
 }
 

@@ -1,5 +1,4 @@
 use Rattle.std.proofs.Common.{arith}
-use Rattle.life_plane.specs.Plane.{run}
 use Rattle.life_cells.specs.Cells.{alive}
 use Rattle.life_cli.specs.Replayed.{IsReplayed}
 use Rattle.life_cli.proofs.StageLaws.{behind, answered}

@@ -1,7 +1,13 @@
 use Rattle.std.proofs.Common.{refl}
 use Rattle.std.specs.Prelude.{codes}
-use Rattle.life_cli.proofs.WordLists.{miscounted}
+use Rattle.life_cli.specs.Words as usage
+use Rattle.life_cli.proofs.WordLists.{miscounted, misnumbered}
 use Rattle.life_cli.proofs.words.read_replay.Goals as goal
 
 pub returns-in_default-clause-err : goal.returns-in_default-clause-err
-returns-in_default-clause-err c = miscounted c.args.words.now (codes "replay") 2 c.requires refl c.in_default.ensures.none
+returns-in_default-clause-err c = miscounted c.args.words.now (codes "replay") usage.replay c.requires refl c.in_default.ensures.none
+
+pub returns-in-None-clause-err : goal.returns-in-None-clause-err
+returns-in-None-clause-err c =
+    let there = c.in-Some.ensures.some in
+    misnumbered c.args.words.now there.0 _ _ c.requires there.1 c.in-None.ensures.none
