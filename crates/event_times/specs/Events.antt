@@ -52,9 +52,14 @@ abbrev pub history_after : History → Event → History
 history_after past (Turn m) = record { past = past_after past.past m; hits = past.hits }
 history_after past (Hit h) = record { past = past.past; hits = hits_with past.past.throw h past.hits }
 
--- a thrown glider leaves a hit in peace: the hit is over when it is thrown, or the glider is not yet there when the hit ends
+-- a glider that is thrown then, on a lane and with an index, leaves a hit in peace: the hit is over, or the glider is not yet there when the hit
+-- ends
+abbrev pub IsSpared : ℕ → ℤ → ℤ → HasBeen → Type 0
+IsSpared thrown_at lane j hit = (hit.ended ≤ℤ pos thrown_at) ⊎ (((j +ℤ hit.ended) -ℤ pos thrown_at) ≤ℤ last_index_before lane (as_box hit.bounds))
+
+-- what a turn throws does
 abbrev pub SparesHit : Timed → ℤ → ℤ → HasBeen → Type 0
-SparesHit m lane j hit = (hit.ended ≤ℤ pos (end m)) ⊎ (((j +ℤ hit.ended) -ℤ pos (end m)) ≤ℤ last_index_before lane (as_box hit.bounds))
+SparesHit m lane j hit = IsSpared (end m) lane j hit
 
 -- what a turn throws, if it throws, spares all hits that have been
 abbrev pub SparesHits : TurnEnd → Timed → List HasBeen → Type 0

@@ -7,3 +7,8 @@ pub mod Closing
 pub mod ClosingLaws
 pub mod Events
 pub mod EventLaws
+pub mod Least
+pub mod Clock
+pub mod Early
+pub mod ClockLaws
+pub mod EarlyLaws

@@ -47,15 +47,23 @@ throw_after (Emit kind advance lane j) m before = Some (record { time = end m; l
 abbrev pub past_after : Past → Timed → Past
 past_after past m = record { turn = Some m; throw = throw_after m.turn.end m past.throw }
 
--- not before the end of the turn before, and a gap behind it, and 4 more generations for each cell that the elbow has moved on
+-- not before a turn has ended, and a gap behind it, and 4 more generations for each cell by which it has moved the elbow on
+abbrev pub IsAfter : ℕ → ℤ → ℕ → Type 0
+IsAfter ended advance start = (ended ≤ start) × (((pos ended +ℤ pos gap) +ℤ pos 4 *ℤ advance) ≤ℤ pos start)
+
+-- the turn before, if there is one
 abbrev pub IsBehindTurn : Option Timed → ℕ → Type 0
 IsBehindTurn None start = Unit {0}
-IsBehindTurn (Some m) start = (end m ≤ start) × (((pos (end m) +ℤ pos gap) +ℤ pos 4 *ℤ advance_of m.turn.end) ≤ℤ pos start)
+IsBehindTurn (Some m) start = IsAfter (end m) (advance_of m.turn.end) start
 
--- not before the last glider thrown has passed the reach
+-- not before a thrown glider has passed the reach
+abbrev pub HasPassed : ℤ → Thrown → ℕ → Type 0
+HasPassed reach g start = (g.time ≤ start) × ((pos g.time +ℤ until_past reach g.lane g.j) ≤ℤ pos start)
+
+-- the last glider thrown, if there is one
 abbrev pub IsBehindThrow : Settings → Option Thrown → ℕ → Type 0
 IsBehindThrow settings None start = Unit {0}
-IsBehindThrow settings (Some g) start = (g.time ≤ start) × ((pos g.time +ℤ until_past settings.reach g.lane g.j) ≤ℤ pos start)
+IsBehindThrow settings (Some g) start = HasPassed settings.reach g start
 
 -- a turn may start then
 pub record MayStart (settings : Settings) (past : Past) (start : ℕ) : Type 0 where

@@ -1,0 +1,2 @@
+-- Lemmas on least starts.
+pub mod LeastStarts
