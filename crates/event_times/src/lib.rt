@@ -9,3 +9,6 @@ pub mod least;
 pub use clock::{Clock, add_hit, add_turn, advance_of};
 pub use laws::{closing_streams_vanish, turns_alone_are_events};
 pub use least::{Emission, HitTime, Sent, TurnTime, least_start};
+
+#[cfg(test)]
+mod tests;
