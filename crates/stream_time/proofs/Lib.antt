@@ -3,3 +3,5 @@ pub mod Gliding
 pub mod Numbers
 pub mod SoFar
 pub mod Whole
+pub mod Places
+pub mod PlanSoFar

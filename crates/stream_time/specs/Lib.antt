@@ -5,5 +5,9 @@ pub mod Numbered
 pub mod NumberedLaws
 pub mod Laying
 pub mod Built
+pub mod InTime
 pub mod WaitLaws
 pub mod RangeLaws
+pub mod NearEvents
+pub mod Adding
+pub mod NearPlanLaws

@@ -1,0 +1,2 @@
+-- What a book builds for a target.
+pub mod Built

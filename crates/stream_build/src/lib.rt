@@ -1,0 +1,7 @@
+//! What a checked book builds for a target: the pattern, cell for cell, and the generation in which it is the target. x goes right and y
+//! goes down.
+#![tactic(auto)]
+
+pub mod building;
+
+pub use building::Built;
