@@ -5,7 +5,7 @@ ghost use Rattle.std.specs.List.{AllByRecursion};
 ghost use Rattle.book_parts.specs.Limits.{IsFrom};
 ghost use Rattle.life_scene.specs.Hits.{first_quarter, last_index_before};
 ghost use Rattle.life_cells.specs.Boxes.{IsBoxInRange};
-ghost use Rattle.recipe_hit.specs.SceneHitLaws.{as_box};
+ghost use Rattle.recipe_hit.specs.SceneBoxes.{as_box};
 ghost use Rattle.event_times.specs.Events.{IsSpared};
 ghost use Rattle.event_times.specs.Least.{IsNear, IsNearTurn, IsNearSent, IsNearEmission, IsNearHit, AreNear, been, IsBehindTime, IsBehindSent, SparesThese, IsLeastOf};
 

@@ -25,7 +25,7 @@ use Rattle.recipe_turn.specs.Checked.{raws}
 use Rattle.recipe_hit.specs.Checked.{Struck, IsSmallFrame, IsChecked}
 use Rattle.recipe_hit.specs.declared.frame.HitFrame.{HitFrame}
 use Rattle.recipe_hit.specs.declared.limits.TheConstants.{LONGEST_HIT}
-use Rattle.recipe_hit.specs.SceneHitLaws.{as_box}
+use Rattle.recipe_hit.specs.SceneBoxes.{as_box}
 use Rattle.recipe_hit.specs.declared.hit.Hit as hits
 use Rattle.recipe_book.specs.Checked.{CheckedEntries, IsCheckedBook}
 use Rattle.lane_clear.specs.Frames.{moved_frame, moved_bounds, farthest, IsFrameInRange}

@@ -1,7 +1,7 @@
 use Rattle.std.proofs.Common.{◌≡◌, ℤ, pos, ◌+ℤ◌, ◌*ℤ◌, w64, to_z, of_z, ap, ◌∙◌, arith}
 use Rattle.std.proofs.lemmas.Int.{ints}
 use Rattle.life_scene.specs.Hits.{Box, first_quarter, last_index_before}
-use Rattle.recipe_hit.specs.SceneHitLaws.{as_box}
+use Rattle.recipe_hit.specs.SceneBoxes.{as_box}
 use Rattle.event_times.proofs.least.last_before.Goals as goal
 
 last_is : (lane z q : ℤ) (b : Box) → q ≡ first_quarter lane b → z ≡ pos 4 *ℤ q +ℤ pos 3 → z ≡ last_index_before lane b

@@ -1,7 +1,7 @@
 use Rattle.std.proofs.Common.{◌≡◌, ℤ, w64, to_z, of_z, ap, ◌∙◌, arith}
 use Rattle.std.proofs.lemmas.Int.{ints, clamps}
 use Rattle.life_scene.specs.Hits.{last_index_before}
-use Rattle.recipe_hit.specs.SceneHitLaws.{as_box}
+use Rattle.recipe_hit.specs.SceneBoxes.{as_box}
 use Rattle.event_times.proofs.LeastStarts.{spared_from}
 use Rattle.event_times.proofs.least.sparing.Goals as goal
 
