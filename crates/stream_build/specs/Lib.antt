@@ -1,2 +1,3 @@
 -- What a book builds for a target.
 pub mod Built
+pub mod Laying

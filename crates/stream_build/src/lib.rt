@@ -3,5 +3,7 @@
 #![tactic(auto)]
 
 pub mod building;
+mod gliders;
+mod pattern;
 
-pub use building::Built;
+pub use building::{Built, build};

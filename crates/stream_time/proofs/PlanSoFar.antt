@@ -466,8 +466,8 @@ ends_been : (turned : List HitTime) → map pos (ends_of turned) ≡ map (λ (hi
 ends_been [] = refl
 ends_been (hit ∷ turned) = ap (λ (zs : List ℤ). pos hit.end ∷ zs) (ends_been turned)
 
-pub starts_on_time : (book : CheckedEntries) (events : List Event) (place : ℕ) (clock : Clock) → IsSoFar book events place clock → AreEarlyStarts clock.starts.items
-starts_on_time book events place clock s = s.on_time
+pub so_far_few : (book : CheckedEntries) (events : List Event) (place : ℕ) (clock : Clock) → IsSoFar book events place clock → length clock.starts.items ≤ MOST_GLIDERS
+so_far_few book events place clock s = let few = s.few in omega arith
 
 pub so_far_ends : (book : CheckedEntries) (plan : Plan) (place : ℕ) (clock : Clock) (schedule : Schedule) → length plan.events.items ≤ place → IsSoFar book plan.events.items place clock →
     schedule.starts.items ≡ clock.starts.items → schedule.hit_ends.items ≡ ends_of clock.hits.items → schedule.n ≡ n_of clock.before clock.hits.items → IsSchedule book plan schedule

@@ -57,6 +57,7 @@ pub fn schedule(
     requires { IsPlan book.now (alive target.now) plan.now }
     ensures schedule { IfOk result (λ schedule. IsSchedule book.now plan.now schedule) }
     ensures early { IfOk result (λ schedule. AreEarlyStarts schedule.starts.items) }
+    ensures few { IfOk result (λ schedule. length schedule.starts.items ≤ MOST_GLIDERS) }
 {
     // These say that a plan is a construction, of its book's turns and hits; they do nothing.
     plans_construct();

@@ -6,7 +6,7 @@ use Rattle.build_plan.specs.Happenings.{IsOfBook}
 use Rattle.stream_time.specs.Adding.{GliderComes, EventIsAdded}
 use Rattle.stream_time.specs.NearEvents.{IsNearEvent}
 use Rattle.stream_time.specs.NearPlanLaws.{plan_near}
-use Rattle.stream_time.proofs.PlanSoFar.{so_far_begins, so_far_ends, own_event, near_event, few_turns, event_comes, event_added}
+use Rattle.stream_time.proofs.PlanSoFar.{so_far_begins, so_far_ends, so_far_few, own_event, near_event, few_turns, event_comes, event_added}
 use Rattle.stream_time.proofs.scheduling.schedule.Goals as goal
 
 pub loop-event-init : goal.loop-event-init
@@ -59,4 +59,5 @@ returns c = record {
   schedule = so_far_ends c.args.book.now c.args.plan.now c.loop-event.event-index c.loop-event.clock _ (subst (λ (es : List Event). length es ≤ c.loop-event.event-index) c.deref-event-items.ensures.value c.loop-event-test.false) c.loop-event.invariant
       refl c.in_ok-hit_ends.ensures c.number-n.ensures;
   early = c.loop-event.invariant.on_time;
+  few = so_far_few c.args.book.now c.args.plan.now.events.items c.loop-event.event-index c.loop-event.clock c.loop-event.invariant;
 }
