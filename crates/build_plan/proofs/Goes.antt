@@ -109,22 +109,26 @@ abbrev pub AreSoundTurns : CheckedEntries → Type 0
 AreSoundTurns book = (k : ℕ) (turn : RawTurn) → IsNumbered (raws book.turns) k turn → (shift : ℤ) (start : ℕ) → IsSoundHere book.settings book.kinds (record { turn = turn; shift = shift; start = start })
 
 -- the turn with a number begins at this elbow
-record TurnAt (turns : List RawTurn) (exit : Exit) (number : ℕ) (from : Elbow) : Type 0 where
-  turn : RawTurn
-  numbered : IsNumbered turns number turn
-  kind : turn.kind ≡ from.kind
-  end : turn.end ≡ exit.end
+pub record TurnAt (turns : List RawTurn) (exit : Exit) (number : ℕ) (from : Elbow) : Type 0 where
+  pub turn : RawTurn
+  pub numbered : IsNumbered turns number turn
+  pub kind : turn.kind ≡ from.kind
+  pub end : turn.end ≡ exit.end
 
-turn_at : (turns : List RawTurn) (exit : Exit) (number : ℕ) (from : Elbow) → IsNumbered (exits_of turns) number exit → exit.kind ≡ from.kind → TurnAt turns exit number from
+pub turn_at : (turns : List RawTurn) (exit : Exit) (number : ℕ) (from : Elbow) → IsNumbered (exits_of turns) number exit → exit.kind ≡ from.kind → TurnAt turns exit number from
 turn_at turns exit number from numbered kind =
     let t = turn_numbered turns number exit numbered in
     record { turn = t.0; numbered = t.1.0; kind = ap (λ (e : Exit). e.kind) t.1.1 ∙ kind; end = ap (λ (e : Exit). e.end) t.1.1 }
 
 -- where a turn leads is where it moves the elbow
-moves_there : (end : TurnEnd) (from to : Elbow) → leaves end from.shift ≡ Some to → moved_by end from ≡ to
+pub moves_there : (end : TurnEnd) (from to : Elbow) → leaves end from.shift ≡ Some to → moved_by end from ≡ to
 moves_there Close from to h = absurd (cc)
 moves_there (Move kind advance) from to h = cc
 moves_there (Emit kind advance lane j) from to h = cc
+
+-- where a numbered turn moves the elbow
+pub past_is : (turns : List RawTurn) (exit : Exit) (number : ℕ) (from : Elbow) → TurnAt turns exit number from → elbow_past (item_of turns number) from ≡ moved_by exit.end from
+past_is turns exit number from t = ap (λ (o : Option RawTurn). elbow_past o from) (item_numbered turns number t.turn t.numbered) ∙ ap (λ (e : TurnEnd). moved_by e from) t.end
 
 module _ (book : CheckedEntries) (sound : AreSoundTurns book) (hand : Hand) (built : Plane) where
   abbrev turns : List RawTurn
@@ -147,10 +151,6 @@ module _ (book : CheckedEntries) (sound : AreSoundTurns book) (hand : Hand) (bui
         subst (λ (s : State). Goes book s events end) (λ i. with_elbow (leaves (ends i) (sym shift i)) (lane_thrown (ends i) (sym shift i))) rest,
       ))
 
-  -- where a numbered turn moves the elbow
-  past_is : (exit : Exit) (number : ℕ) (from : Elbow) → TurnAt turns exit number from → elbow_past (item_of turns number) from ≡ moved_by exit.end from
-  past_is exit number from t = ap (λ (o : Option RawTurn). elbow_past o from) (item_numbered turns number t.turn t.numbered) ∙ ap (λ (e : TurnEnd). moved_by e from) t.end
-
   -- a turn that may pass on the way moves the elbow and throws nothing
   pass_goes : (goal : Goal) → ((kind : ℕ) (advance lane j : ℤ) → MayPass goal (Emit kind advance lane j) → ⊥) → (number : ℕ) (from to : Elbow) (events : List Event) (end : State) →
       Passes (exits_of turns) book.settings.span goal number from to → Goes book (with_elbow (Some to) None) events end → Goes book (with_elbow (Some from) None) (Turn number from.shift ∷ events) end
@@ -165,7 +165,7 @@ module _ (book : CheckedEntries) (sound : AreSoundTurns book) (hand : Hand) (bui
   -- the elbow after a turn on the way
   pass_past : (goal : Goal) (number : ℕ) (from to : Elbow) → Passes (exits_of turns) book.settings.span goal number from to → elbow_past (item_of turns number) from ≡ to
   pass_past goal number from to p =
-      past_is p.exit number from (turn_at turns p.exit number from p.numbered p.leads.kind) ∙ moves_there p.exit.end from to p.leads.leaves_it
+      past_is turns p.exit number from (turn_at turns p.exit number from p.numbered p.leads.kind) ∙ moves_there p.exit.end from to p.leads.leaves_it
 
   -- the turns of a list that serves a lane
   pub lane_goes : (lane : ℤ) (from : Elbow) (list : List ℕ) → IsRoute (exits_of turns) book.settings.span (goals.Lane lane) from list →
@@ -173,7 +173,7 @@ module _ (book : CheckedEntries) (sound : AreSoundTurns book) (hand : Hand) (bui
   lane_goes lane from [] route = absurd route
   lane_goes lane from (k ∷ ks) (inl last) =
       subst (λ (l : List ℕ). Goes book (with_elbow (Some from) None) (turn_events turns from (k ∷ l)) (with_elbow (Some (elbow_after turns from (k ∷ l))) (Some lane))) (sym last.1)
-      (turn_goes last.0.exit k from [] (with_elbow (Some (elbow_past (item_of turns k) from)) (Some lane)) at (by last.0.exit.end last.0.end (past_is last.0.exit k from at)))
+      (turn_goes last.0.exit k from [] (with_elbow (Some (elbow_past (item_of turns k) from)) (Some lane)) at (by last.0.exit.end last.0.end (past_is turns last.0.exit k from at)))
     where
       at : TurnAt turns last.0.exit k from
       at = turn_at turns last.0.exit k from last.0.numbered last.0.kind

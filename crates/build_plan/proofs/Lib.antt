@@ -12,3 +12,17 @@ pub mod PlanGoes
 pub mod Builds
 pub mod FromBook
 pub mod OfBook
+pub mod Pushing
+pub mod Numbers
+pub mod OneByOne
+pub mod Places
+pub mod OnIsland
+pub mod Visiting
+pub mod Sites
+pub mod Searching
+pub mod Trying
+pub mod Tried
+pub mod Starting
+pub mod Drafting
+pub mod Ending
+pub mod Grounds

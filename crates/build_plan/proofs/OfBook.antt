@@ -27,7 +27,7 @@ use Rattle.build_plan.specs.TurnEvents.{elbow_past, elbow_after, turn_events}
 use Rattle.build_plan.specs.Throws.{hits_of, hit_throws, salvo_throws, place_past, list_throws}
 use Rattle.build_plan.specs.Served.{AreServed, hit_event}
 use Rattle.build_plan.specs.Stand.{Stand}
-use Rattle.build_plan.specs.Usable.{Taken, site_of, IsWay, way_throws, SaysFarewell, stand_after}
+use Rattle.build_plan.specs.Usable.{Taken, site_of, IsWayIn, way_throws, SaysFarewell, stand_after}
 use Rattle.build_plan.specs.Plan.{TakeOn, taken_events, IsPlan}
 use Rattle.build_plan.specs.Happenings.{IsOfBook}
 
@@ -83,7 +83,7 @@ module _ (book : CheckedEntries) where
       (away_of_book room built between (place_past (item_of book.salvos k) from) ks more)
 
   -- the gliders of what is taken
-  throws_of_book : (room : Bounds) (built : Plane) (from : Option Cell) (way : List ℕ) (number : ℕ) (salvo : Struck) (place : Cell) → IsNumbered book.salvos number salvo → IsWay book room built from way place →
+  throws_of_book : (room : Bounds) (built : Plane) (from : Option Cell) (way : List ℕ) (number : ℕ) (salvo : Struck) (place : Cell) → IsNumbered book.salvos number salvo → IsWayIn (site_of book room built) from way place →
       AllByRecursion IsFor (way_throws book.salvos from way number place)
   throws_of_book room built None way number salvo place numbered is = salvo_of_book number salvo place numbered
   throws_of_book room built (Some from) way number salvo place numbered is =

@@ -136,7 +136,7 @@ module _ (one : LeastAreOne) (book : CheckedEntries) (room : Bounds) where
   farewell_once built None from a b c d h k = (h.0 ∙ sym k.0, h.1 ∙ sym k.1)
   farewell_once built (Some place) from a b c d (list, (least, served)) (other, (least_other, served_other)) =
       let lists : other ≡ list = one.farewell (site_of book room built) place other list least_other least in
-      served_once one (raws book.turns) book.settings.span (list_throws book.salvos place list) from a b c d served
+      served_once one.serving (raws book.turns) book.settings.span (list_throws book.salvos place list) from a b c d served
       (subst (λ (l : List ℕ). AreServed (raws book.turns) book.settings.span from (list_throws book.salvos place l) b d) lists served_other)
 
   pub course_once : (islands : List Island) (a b : Course) → IsCourse book room islands a → IsCourse book room islands b → a ≡ b

@@ -29,7 +29,7 @@ use Rattle.build_plan.specs.Stand.{Stand}
 use Rattle.build_plan.specs.TurnEvents.{turn_events}
 use Rattle.build_plan.specs.Usable.{Taken, IsTaken}
 use Rattle.build_plan.specs.Plan.{most_gliders, first_stand, TakeOn, taken_events, Course, IsCourse, all_events, gliders_in, IsPlanFor, IsPlan, SamePlan, first_place}
-use Rattle.build_plan.specs.Stops.{HasNoRecipe, HasNoClosing, IsLongAtSalvo, IsLongAtClosing, StopsFor, PlanStops}
+use Rattle.build_plan.specs.Stops.{HasNoRecipe, HasNoClosing, IsLongAtSalvo, IsLongAtClosing, StopsFor, StopsThere, PlanStops}
 use Rattle.build_plan.proofs.Leasts.{LeastAreOne}
 use Rattle.build_plan.proofs.Gliders.{gliders_both}
 use Rattle.build_plan.proofs.OneTaken.{heads_same}
@@ -218,14 +218,29 @@ module _ (one : LeastAreOne) (book : CheckedEntries) (target : Plane) where
   abbrev lies_plan : (plan : Plan) → IsPlan book target plan → Lies
   lies_plan plan p = record { placing = p.placing; is_placing = p.is_placing; islands = p.islands; islands_are = p.islands_are }
 
-  abbrev lies_stop : (stop : PlanError) → PlanStops book target stop → Lies
+  abbrev lies_stop : (stop : PlanError) → StopsThere book target stop → Lies
   lies_stop stop s = record { placing = s.placing; is_placing = s.is_placing; islands = s.islands; islands_are = s.islands_are }
 
   pub plan_once : (a b : Plan) → IsPlan book target a → IsPlan book target b → SamePlan a b
   plan_once a b h k = plans_are_one_for one book h.placing h.islands a b h.plans (moved_over (λ l i. IsPlanFor book l i b) (lies_plan a h) (lies_plan b k) k.plans)
 
+  excludes : (plan : Plan) (stop : PlanError) → IsPlan book target plan → StopsThere book target stop → stop ≡ Memory
+  excludes plan stop h k = stop_excludes one book h.placing h.islands plan stop h.plans (moved_over (λ l i. StopsFor book l i stop) (lies_plan plan h) (lies_stop stop k) k.stops)
+
   pub plan_or_stop : (plan : Plan) (stop : PlanError) → IsPlan book target plan → PlanStops book target stop → stop ≡ Memory
-  plan_or_stop plan stop h k = stop_excludes one book h.placing h.islands plan stop h.plans (moved_over (λ l i. StopsFor book l i stop) (lies_plan plan h) (lies_stop stop k) k.stops)
+  plan_or_stop plan (NoRecipe island at) h k = excludes plan (NoRecipe island at) h k
+  plan_or_stop plan (NoClosing kind shift) h k = excludes plan (NoClosing kind shift) h k
+  plan_or_stop plan (StreamLong count) h k = excludes plan (StreamLong count) h k
+  plan_or_stop plan Memory h k = refl
+
+  stops_there : (stop : PlanError) → stop ≢ Memory → PlanStops book target stop → StopsThere book target stop
+  stops_there (NoRecipe island at) other s = s
+  stops_there (NoClosing kind shift) other s = s
+  stops_there (StreamLong count) other s = s
+  stops_there Memory other s = absurd (other refl)
+
+  one_there : (e f : PlanError) → StopsThere book target e → StopsThere book target f → e ≢ Memory → f ≢ Memory → e ≡ f
+  one_there e f h k = stop_once one book h.placing h.islands h.islands_are.in_order e f h.stops (moved_over (λ l i. StopsFor book l i f) (lies_stop e h) (lies_stop f k) k.stops)
 
   pub one_stop : (e f : PlanError) → PlanStops book target e → PlanStops book target f → e ≢ Memory → f ≢ Memory → e ≡ f
-  one_stop e f h k = stop_once one book h.placing h.islands h.islands_are.in_order e f h.stops (moved_over (λ l i. StopsFor book l i f) (lies_stop e h) (lies_stop f k) k.stops)
+  one_stop e f h k e_is f_is = one_there e f (stops_there e e_is h) (stops_there f f_is k) e_is f_is

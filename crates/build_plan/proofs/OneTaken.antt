@@ -16,6 +16,7 @@ use Rattle.life_islands.specs.declared.island.Island.{Island}
 use Rattle.elbow_graph.specs.Numbered.{IsNumbered}
 use Rattle.elbow_graph.specs.NumberedLaws.{numbered_once}
 use Rattle.recipe_hit.specs.Checked.{Struck}
+use Rattle.hand_route.specs.Moves.{Site}
 use Rattle.recipe_turn.specs.Checked.{raws}
 use Rattle.recipe_book.specs.Checked.{CheckedEntries}
 use Rattle.recipe_book.specs.Entries.{AreThose}
@@ -23,7 +24,7 @@ use Rattle.build_plan.specs.Fits.{Fits, IsOutside, island_at}
 use Rattle.build_plan.specs.Stand.{Stand}
 use Rattle.build_plan.specs.Served.{AreServed}
 use Rattle.build_plan.specs.declared.throw.Throw.{Throw}
-use Rattle.build_plan.specs.Usable.{Taken, product_of, site_of, IsWay, way_throws, IsUsable, IsTaken}
+use Rattle.build_plan.specs.Usable.{Taken, product_of, site_of, IsWayIn, way_throws, IsUsable, IsTaken}
 use Rattle.build_plan.proofs.Leasts.{LeastAreOne}
 use Rattle.build_plan.proofs.OneServed.{served_once}
 
@@ -80,18 +81,18 @@ fits_once left product p q a b =
 
 module _ (one : LeastAreOne) (book : CheckedEntries) (room : Bounds) where
   -- the hand comes to a place in one way
-  way_once : (built : Plane) (from : Option Cell) (to : Cell) (a b : List ℕ) → IsWay book room built from a to → IsWay book room built from b to → a ≡ b
-  way_once built None to a b h k = h ∙ sym k
-  way_once built (Some from) to a b h k = one.hand (site_of book room built) from to a b h k
+  way_once : (site : Site) (from : Option Cell) (to : Cell) (a b : List ℕ) → IsWayIn site from a to → IsWayIn site from b to → a ≡ b
+  way_once site None to a b h k = h ∙ sym k
+  way_once site (Some from) to a b h k = one.hand site from to a b h k
 
   -- a salvo is usable in one way
   pub usable_once : (stand : Stand) (a b : Taken) → IsUsable book room stand a → IsUsable book room stand b → a.number ≡ b.number → a ≡ b
   usable_once stand a b h k number =
       let salvo : a.salvo ≡ b.salvo = numbered_once book.salvos a.number a.salvo b.salvo h.numbered (subst (λ (n : ℕ). IsNumbered book.salvos n b.salvo) (sym number) k.numbered) in
       let place : a.place ≡ b.place = fits_once stand.left (alive a.salvo.raw.product) a.place b.place h.fits (subst (λ (s : Struck). Fits stand.left (alive s.raw.product) b.place) (sym salvo) k.fits) in
-      let way : a.way ≡ b.way = way_once stand.built stand.place a.place a.way b.way h.way (subst (IsWay book room stand.built stand.place b.way) (sym place) k.way) in
+      let way : a.way ≡ b.way = way_once (site_of book room stand.built) stand.place a.place a.way b.way h.way (subst (IsWayIn (site_of book room stand.built) stand.place b.way) (sym place) k.way) in
       let throws : way_throws book.salvos stand.place b.way b.number b.place ≡ way_throws book.salvos stand.place a.way a.number a.place = λ i. way_throws book.salvos stand.place (sym way i) (sym number i) (sym place i) in
-      let served = served_once one (raws book.turns) book.settings.span (way_throws book.salvos stand.place a.way a.number a.place) stand.elbow a.events b.events a.elbow b.elbow h.served
+      let served = served_once one.serving (raws book.turns) book.settings.span (way_throws book.salvos stand.place a.way a.number a.place) stand.elbow a.events b.events a.elbow b.elbow h.served
       (subst (λ (t : List Throw). AreServed (raws book.turns) book.settings.span stand.elbow t b.events b.elbow) throws k.served) in
       let product : product_of b ≡ product_of a = λ i. shift (sym place i).x (sym place i).y (alive (sym salvo i).raw.product) in
       let left : a.left ≡ b.left = those_once (IsOutside (product_of a)) stand.left a.left b.left h.left_after

@@ -26,7 +26,7 @@ use Rattle.build_plan.specs.TurnEvents.{turn_events}
 use Rattle.build_plan.specs.Throws.{hits_of, salvo_throws, hit_throws, carried, place_past, list_throws}
 use Rattle.build_plan.specs.Served.{AreServed}
 use Rattle.build_plan.specs.Stand.{Stand}
-use Rattle.build_plan.specs.Usable.{Taken, product_of, site_of, IsWay, way_throws, SaysFarewell, MayLeave, IsUsable, stand_after}
+use Rattle.build_plan.specs.Usable.{Taken, product_of, site_of, IsWayIn, way_throws, SaysFarewell, MayLeave, IsUsable, stand_after}
 use Rattle.build_plan.specs.Plan.{first_stand, TakeOn, taken_events, first_place, Course, IsCourse, all_events}
 use Rattle.build_plan.proofs.ServedParts.{served_both}
 use Rattle.build_plan.proofs.Goes.{Goes, goes_nowhere, goes_on, rests_at, closing_goes}
@@ -34,7 +34,7 @@ use Rattle.build_plan.proofs.SalvoGoes.{salvo_goes}
 use Rattle.build_plan.proofs.FromBook.{sound_turns, sound_salvos}
 
 -- where a hand goes that a salvo leaves there
-carried_there : (from to : Cell) (by : Option Cell) → moved_by from by ≡ Some to → carried from by ≡ to
+pub carried_there : (from to : Cell) (by : Option Cell) → moved_by from by ≡ Some to → carried from by ≡ to
 carried_there from to None h = absurd (cc)
 carried_there from to (Some by) h = cc
 
@@ -122,7 +122,7 @@ module _ (book : CheckedEntries) (checked : IsCheckedBook book) where
     taken_leads : (stand : Stand) (taken : Taken) (place : Cell) → IsUsable book room stand taken → stand.place ≡ Some place →
         Goes book (rests_at (Some stand.elbow) None (Rests place) stand.built) taken.events (state_of (stand_after stand taken))
     taken_leads stand taken place u at =
-        let way : hand.IsLeastHandList (site_of book room stand.built) place taken.way taken.place = subst (λ (p : Option Cell). IsWay book room stand.built p taken.way taken.place) at u.way in
+        let way : hand.IsLeastHandList (site_of book room stand.built) place taken.way taken.place = subst (λ (p : Option Cell). IsWayIn (site_of book room stand.built) p taken.way taken.place) at u.way in
         let served : AreServed (raws book.turns) book.settings.span stand.elbow (list_throws book.salvos place taken.way ++ salvo_throws book.salvos taken.number taken.place) taken.events taken.elbow =
         subst (λ (p : Option Cell). AreServed (raws book.turns) book.settings.span stand.elbow (way_throws book.salvos p taken.way taken.number taken.place) taken.events taken.elbow) at u.served in
         let both = served_both (raws book.turns) book.settings.span (list_throws book.salvos place taken.way) (salvo_throws book.salvos taken.number taken.place) stand.elbow taken.elbow taken.events served in

@@ -11,3 +11,9 @@ pub mod Usable
 pub mod Plan
 pub mod Stops
 pub mod Happenings
+pub mod Walked
+pub mod Visited
+pub mod ServedWalk
+pub mod Planners
+pub mod Trials
+pub mod Drafts

@@ -71,10 +71,17 @@ StopsFor book placing islands (NoClosing kind shift) = HasNoClosing book placing
 StopsFor book placing islands (StreamLong count) = IsLongAtSalvo book placing islands count ⊎ IsLongAtClosing book placing islands count
 StopsFor book placing islands Memory = Unit {0}
 
--- planning stops so for a target
-pub record PlanStops (book : CheckedEntries) (target : Plane) (stop : PlanError) : Type 0 where
+-- planning stops so for a target, at the place where it is built
+pub record StopsThere (book : CheckedEntries) (target : Plane) (stop : PlanError) : Type 0 where
   pub placing : Placing
   pub is_placing : IsPlacing book.settings target placing
   pub islands : List Island
   pub islands_are : AreIslands (moved_target target placing.by) islands
   pub stops : StopsFor book placing islands stop
+
+-- planning stops so for a target; want of memory may come before its islands are known
+abbrev pub PlanStops : CheckedEntries → Plane → PlanError → Type 0
+PlanStops book target (NoRecipe island at) = StopsThere book target (NoRecipe island at)
+PlanStops book target (NoClosing kind shift) = StopsThere book target (NoClosing kind shift)
+PlanStops book target (StreamLong count) = StopsThere book target (StreamLong count)
+PlanStops book target Memory = Unit {0}

@@ -46,14 +46,21 @@ abbrev pub site_of : CheckedEntries → Bounds → Plane → Site
 site_of book room built = record { settings = book.settings; salvos = book.salvos; room = room; built = built }
 
 -- the way of the hand to a place: none for the first hand, which stands there; otherwise the least hand list
-abbrev pub IsWay : CheckedEntries → Bounds → Plane → Option Cell → List ℕ → Cell → Type 0
-IsWay book room built None way to = way ≡ []
-IsWay book room built (Some from) way to = IsLeastHandList (site_of book room built) from way to
+abbrev pub IsWayIn : Site → Option Cell → List ℕ → Cell → Type 0
+IsWayIn site None way to = way ≡ []
+IsWayIn site (Some from) way to = IsLeastHandList site from way to
 
--- the gliders of the way and then of the salvo; the first hand stands where the salvo begins
+abbrev pub IsWay : CheckedEntries → Bounds → Plane → Option Cell → List ℕ → Cell → Type 0
+IsWay book room built from way to = IsWayIn (site_of book room built) from way to
+
+-- the gliders of the salvos that carry a hand on its way; the first hand stands where its salvo begins
+abbrev pub carrying_throws : List Struck → Option Cell → List ℕ → List Throw
+carrying_throws salvos None way = []
+carrying_throws salvos (Some from) way = list_throws salvos from way
+
+-- the gliders of the way and then of the salvo
 abbrev pub way_throws : List Struck → Option Cell → List ℕ → ℕ → Cell → List Throw
-way_throws salvos None way number place = salvo_throws salvos number place
-way_throws salvos (Some from) way number place = list_throws salvos from way ++ salvo_throws salvos number place
+way_throws salvos from way number place = carrying_throws salvos from way ++ salvo_throws salvos number place
 
 -- the farewell of a hand: the least farewell list, and the events for each of its lanes; nothing where no hand is left
 abbrev pub SaysFarewell : CheckedEntries → Bounds → Plane → Option Cell → Elbow → List Event → Elbow → Type 0

@@ -2,12 +2,28 @@
 //! lanes, and in the end the turns that close the elbow. x goes right and y goes down; places are those of the hand as a salvo begins.
 #![tactic(auto)]
 
+mod closing;
+mod counting;
+mod draft;
 pub mod error;
 pub mod event;
+mod farewell;
+mod finding;
+mod fitting;
+mod hands;
 pub mod laws;
+mod numbered;
 pub mod placing;
 pub mod plan;
+mod planner;
+pub mod planning;
+mod search;
+mod serving;
 pub mod throw;
+mod throwing;
+mod trial;
+mod walk;
+mod ways;
 
 pub use error::PlanError;
 pub use event::Event;
