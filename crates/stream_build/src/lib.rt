@@ -3,7 +3,9 @@
 #![tactic(auto)]
 
 pub mod building;
+pub mod compiling;
 mod gliders;
 mod pattern;
 
 pub use building::{Built, build};
+pub use compiling::compile;
