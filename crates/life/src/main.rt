@@ -5,29 +5,14 @@
 ghost use Rattle.std.specs.Prelude.{◌≡◌, ◌<◌};
 
 use life_cli::life_run;
-use life_io::{HostDepot, HostSink};
+use life_io::{HostDepot, HostSink, NO_MEMORY, NO_WORDS, words_of};
 use life_steps::Steps;
+use std::io;
 use std::marker::Brand;
 use std::process::ExitCode;
 use std::sync::ledger::{Blank, Ledger};
-use std::{env, io};
 
-/// The status where there is no memory for the words.
-const NO_MEMORY: u8 = 12;
-
-/// The status where the system gives no words.
-const NO_WORDS: u8 = 20;
-
-// The words after the program's name.
-fn words_of(rt: &HostRuntime) -> io::Result<Vec<String>> {
-    let mut words = Vec::new(rt.alloc());
-    for word in env::args(rt)?.skip(1) {
-        words.push(word)?;
-    }
-    Ok(words)
-}
-
-// Runs a command over files and standard streams, and gives its status's number. Nothing counts its generations.
+/// Runs a command over files and standard streams, and gives its status's number. Nothing counts its generations.
 fn run<L: Ledger>(rt: HostRuntime, words: &[String], blank: Blank) -> u8
     requires name { blank.name ≡ L.name }
     requires parts { blank.parts ≡ L.parts }

@@ -3,6 +3,8 @@
 use crate::books::{show_book, show_copies, show_lanes, show_route, show_salvos, show_states};
 use crate::cells::{show_body, show_hits, show_islands, show_shape};
 use crate::clearing::show_clear;
+use crate::hands::{show_clears, show_hand, show_hands};
+use crate::plans::show_plan;
 use crate::runs::{Fails, run_life};
 use crate::sets::{show_inserts, show_pair, show_plain, show_set};
 use crate::texts::Texts;
@@ -12,7 +14,7 @@ use life_steps::Steps;
 use std::alloc::Global;
 use std::sync::ledger::Ledger;
 
-// The words of a line, each on its own.
+/// The words of a line, each on its own.
 fn words_of(alloc: Global, line: &str) -> Result<Vec<String>, NoMemory> {
     let mut words = Vec::new(alloc);
     for word in line.split_whitespace() {
@@ -46,7 +48,7 @@ pub fn call<L: Ledger>(
     }
 }
 
-// Runs a call on a text.
+/// Runs a call on a text.
 fn call_on_text<L: Ledger>(
     alloc: Global,
     texts: &Texts,
@@ -74,6 +76,11 @@ fn call_on_text<L: Ledger>(
         "copies" => show_copies(alloc, text, report),
         "salvos" => show_salvos(alloc, text, report, steps),
         "clear" => show_clear(alloc, texts, text, words, report, steps),
+        "hand" => show_hand(alloc, texts, text, words, report, steps),
+        "hands" => show_hands(alloc, texts, text, words, true, report, steps),
+        "places" => show_hands(alloc, texts, text, words, false, report, steps),
+        "clears" => show_clears(alloc, texts, text, words, report, steps),
+        "plan" => show_plan(alloc, texts, text, words, report, steps),
         "states" => show_states(alloc, text, words, report, steps),
         "route" => show_route(alloc, text, words, report, steps),
         "lanes" => show_lanes(alloc, text, words, report, steps),
@@ -81,7 +88,7 @@ fn call_on_text<L: Ledger>(
     }
 }
 
-// Runs a call on two texts.
+/// Runs a call on two texts.
 fn call_on_two(
     alloc: Global,
     texts: &Texts,

@@ -69,7 +69,7 @@ impl Cases {
         Ok(report)
     }
 
-    // Does what a line says; whether it says something.
+    /// Does what a line says; whether it says something.
     fn take<D: Depot, L: Ledger>(
         &mut self,
         depot: &mut D,
@@ -108,7 +108,7 @@ impl Cases {
         Ok(true)
     }
 
-    // Reads a file as the text of its name.
+    /// Reads a file as the text of its name.
     fn load<D: Depot>(&mut self, depot: &mut D, name: &str) -> Result<bool, NoMemory> {
         let mut bytes = Vec::new(self.alloc);
         if depot.fetch(name, MOST_BYTES, &mut bytes).is_err() {
@@ -118,7 +118,7 @@ impl Cases {
         Ok(true)
     }
 
-    // Does what a line says that makes a text, or chooses one; whether it says something.
+    /// Does what a line says that makes a text, or chooses one; whether it says something.
     fn make(&mut self, word: &str, rest: &str) -> Result<bool, NoMemory> {
         match word {
             "base" => self.base = String::from_str(self.alloc, rest)?,
@@ -134,7 +134,7 @@ impl Cases {
         Ok(true)
     }
 
-    // Makes a text with a name; whether the line says one.
+    /// Makes a text with a name; whether the line says one.
     fn make_named(&mut self, word: &str, name: &str, rest: &str) -> Result<bool, NoMemory> {
         match word {
             "edit" => self.edit(name, rest),
@@ -146,7 +146,7 @@ impl Cases {
         }
     }
 
-    // Keeps a text, where there is one; whether there is.
+    /// Keeps a text, where there is one; whether there is.
     fn keep(&mut self, name: &str, text: Option<Vec<u8>>) -> Result<bool, NoMemory> {
         match text {
             Some(text) => {
@@ -157,7 +157,7 @@ impl Cases {
         }
     }
 
-    // The base with one line put another way.
+    /// The base with one line put another way.
     fn edit(&mut self, name: &str, rest: &str) -> Result<bool, NoMemory> {
         let (place, line) = rest.split_once(' ').unwrap_or((rest, ""));
         let Ok(place) = place.parse::<usize>() else {
@@ -171,7 +171,7 @@ impl Cases {
         self.keep(name, Some(text))
     }
 
-    // The first lines of the base.
+    /// The first lines of the base.
     fn cut(&mut self, count: &str) -> Result<bool, NoMemory> {
         let Ok(count) = count.parse::<usize>() else {
             return Ok(false);
@@ -183,7 +183,7 @@ impl Cases {
         self.keep(CASE, Some(text))
     }
 
-    // Texts, one behind the other.
+    /// Texts, one behind the other.
     fn join(&mut self, name: &str, others: &str) -> Result<bool, NoMemory> {
         let mut all = Vec::new(self.alloc);
         for other in others.split_whitespace() {
@@ -195,7 +195,7 @@ impl Cases {
         self.keep(name, Some(all))
     }
 
-    // A text so many times.
+    /// A text so many times.
     fn times(&mut self, name: &str, rest: &str) -> Result<bool, NoMemory> {
         let Some((count, other)) = rest.split_once(' ') else {
             return Ok(false);
@@ -210,7 +210,7 @@ impl Cases {
         self.keep(name, Some(all))
     }
 
-    // A line for each of some numbers.
+    /// A line for each of some numbers.
     fn numbered(&mut self, name: &str, rest: &str) -> Result<bool, NoMemory> {
         let Some((first, rest)) = rest.split_once(' ') else {
             return Ok(false);
@@ -226,7 +226,7 @@ impl Cases {
     }
 }
 
-// The text of that name, where its bytes are letters.
+/// The text of that name, where its bytes are letters.
 fn text_of<'a>(texts: &'a Texts, name: &str) -> Option<&'a str> {
     str::from_utf8(texts.get(name)?).ok()
 }

@@ -43,7 +43,7 @@ pub fn show_hits<L: Ledger>(
     Ok(true)
 }
 
-// What a glider of a lane does to cells.
+/// What a glider of a lane does to cells.
 fn strike<L: Ledger>(
     alloc: Global,
     cells: &CellSet,

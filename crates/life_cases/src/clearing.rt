@@ -70,7 +70,21 @@ pub fn show_clear<L: Ledger>(
         return Ok(false);
     };
     let numbers = numbers_of(alloc, words)?;
-    let [salvo, hit, x, y] = *numbers.as_slice() else {
+    show_clear_of(alloc, text, &pattern.cells, &numbers, report, steps)
+}
+
+/// The same, where numbers say the salvo, the hit and the place.
+fn show_clear_of<L: Ledger>(
+    alloc: Global,
+    text: &[u8],
+    built: &CellSet,
+    numbers: &[i32],
+    report: &mut String,
+    steps: &mut Steps<L>,
+) -> Result<bool, NoMemory>
+    requires { IsInRange (2 ^ 40) (alive built.now) }
+{
+    let [salvo, hit, x, y] = *numbers else {
         return Ok(false);
     };
     let (Ok(salvo), Ok(hit)) = (usize::try_from(salvo), usize::try_from(hit)) else {
@@ -79,9 +93,24 @@ pub fn show_clear<L: Ledger>(
     let Some(book) = checked(alloc, text, steps) else {
         return Ok(false);
     };
-    let Some(frame) = frame_of(&book, salvo, hit) else {
+    show_hit_of(&book, built, [salvo, hit], place_of(x, y), report)
+}
+
+/// The same, of a checked book.
+fn show_hit_of(
+    book: &CheckedBook,
+    built: &CellSet,
+    numbers: [usize; 2],
+    at: Cell,
+    report: &mut String,
+) -> Result<bool, NoMemory>
+    requires built { IsInRange (2 ^ 40) (alive built.now) }
+    requires at { IsCellInRange farthest at }
+{
+    let [salvo, hit] = numbers;
+    let Some(frame) = frame_of(book, salvo, hit) else {
         return Ok(false);
     };
-    show_cleared(&book, &pattern.cells, frame, place_of(x, y), report)?;
+    show_cleared(book, built, frame, at, report)?;
     Ok(true)
 }

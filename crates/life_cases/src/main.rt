@@ -9,7 +9,9 @@ mod calls;
 mod cases;
 mod cells;
 mod clearing;
+mod hands;
 mod numbers;
+mod plans;
 mod runs;
 mod sets;
 mod show;
@@ -18,29 +20,13 @@ mod tracks;
 
 use cases::Cases;
 use life_cells::NoMemory;
-use life_io::{HostDepot, HostSink, Sink};
+use life_io::{HostDepot, HostSink, NO_MEMORY, NO_WORDS, Sink, words_of};
 use life_steps::Steps;
 use std::marker::Brand;
 use std::process::ExitCode;
 use std::sync::ledger::{Blank, Ledger};
-use std::{env, io};
 
-/// The status where there is no memory.
-const NO_MEMORY: u8 = 12;
-
-/// The status where the system gives no words, or takes no answer.
-const NO_WORDS: u8 = 20;
-
-// The words after the program's name.
-fn words_of(rt: &HostRuntime) -> io::Result<Vec<String>> {
-    let mut words = Vec::new(rt.alloc());
-    for word in env::args(rt)?.skip(1) {
-        words.push(word)?;
-    }
-    Ok(words)
-}
-
-// Runs the cases of the files with these names; whether standard output took what they answer.
+/// Runs the cases of the files with these names; whether standard output took what they answer.
 fn run<L: Ledger>(rt: HostRuntime, names: &[String], blank: Blank) -> Result<bool, NoMemory>
     requires name { blank.name ≡ L.name }
     requires parts { blank.parts ≡ L.parts }

@@ -51,7 +51,7 @@ impl Fails {
     }
 }
 
-// A call and the bytes that it takes before it fails.
+/// A call and the bytes that it takes before it fails.
 fn put_fail(rest: &str) -> Option<PutFail> {
     let (call, after) = rest.split_once(' ')?;
     let call = call.parse::<u64>().ok()?;
@@ -59,7 +59,7 @@ fn put_fail(rest: &str) -> Option<PutFail> {
     Some(PutFail { call, after })
 }
 
-// A depot of the texts that the words name.
+/// A depot of the texts that the words name.
 fn depot_of(
     alloc: Global,
     texts: &Texts,

@@ -10,7 +10,7 @@ use life_cells::{Cell, CellSet, NoMemory, run_plain, step_plain};
 use life_rle::read_rle;
 use std::alloc::Global;
 
-// The cells at these numbers, x and y of each.
+/// The cells at these numbers, x and y of each.
 fn cells_of(alloc: Global, words: &[String]) -> Result<Vec<Cell>, NoMemory> {
     let mut cells = Vec::new(alloc);
     let mut left = None;
@@ -102,7 +102,7 @@ pub fn show_plain(
     Ok(true)
 }
 
-// The next generation of cells, and the one after so many.
+/// The next generation of cells, and the one after so many.
 fn evolve(alloc: Global, cells: &CellSet, count: u32, report: &mut String) -> Result<(), NoMemory>
     requires { IsInRange (2 ^ 40) (alive cells.now) }
 {

@@ -50,7 +50,7 @@ pub fn show_found(
     Ok(true)
 }
 
-// The lane and the index of the glider that cells have in front of a wall, which is within 4,096.
+/// The lane and the index of the glider that cells have in front of a wall, which is within 4,096.
 fn found_at(cells: &CellSet, wall: i32) -> Option<(i64, i64)>
     requires { IsInRange (2 ^ 40) (alive cells.now) }
 {
@@ -61,7 +61,7 @@ fn found_at(cells: &CellSet, wall: i32) -> Option<(i64, i64)>
     find_salvo_glider(cells, wall)
 }
 
-// A box by its sides: left, top, right and bottom.
+/// A box by its sides: left, top, right and bottom.
 fn box_of(left: i32, top: i32, right: i32, bottom: i32) -> Bounds
     ensures { IsBoxInRange (2 ^ 60) result }
 {
@@ -122,7 +122,7 @@ pub fn show_split(
     Ok(true)
 }
 
-// Whether a diagonal lies between two sets.
+/// Whether a diagonal lies between two sets.
 fn are_split(west: &CellSet, limit: i32, east: &CellSet) -> bool
     requires west { IsInRange (2 ^ 40) (alive west.now) }
     requires east { IsInRange (2 ^ 40) (alive east.now) }

@@ -1,12 +1,10 @@
 -- Each stage of a request is exact: it passes with one value at most, and where it passes it doesn't refuse.
-use Rattle.std.specs.Prelude.{◌≡◌, ◌≢◌, ◌⊎◌, ℕ, ◌<◌, ◌≤◌, ◌^◌, ◌+ℤ◌, ◌≤ℤ◌, List, length, IfSome}
+use Rattle.std.specs.Prelude.{◌≡◌, ◌≢◌, ℕ, ◌≤◌, ◌+ℤ◌, ◌≤ℤ◌, List, length}
 use Rattle.std.specs.declared.option.Option.TheVariants.{Some}
-use Rattle.std.proofs.Common.{refl, sym, ap, subst, inl, inr, arith}
-use Rattle.life_plane.specs.Plane.{Plane, IsStill, nothing}
+use Rattle.std.proofs.Common.{refl, ap, subst, inl, inr, arith}
+use Rattle.life_plane.specs.Plane.{Plane, IsStill}
 use Rattle.life_cells.specs.Cells.{Cells, alive}
-use Rattle.life_cells.specs.declared.cell.Cell.{Cell}
-use Rattle.life_cells.specs.Firsts.{IsFirstLive}
-use Rattle.life_io.specs.Texts.{HeldText, text_of}
+use Rattle.life_io.specs.Texts.{HeldText}
 use Rattle.life_rle.specs.Text.{Means}
 use Rattle.life_rle.specs.TextFaults.{IsFineText, TextStopsWith}
 use Rattle.life_rle.specs.declared.error.RleError as rle
@@ -20,33 +18,42 @@ use Rattle.book_text.specs.Book.{Said, Says, StopsWith}
 use Rattle.book_read.specs.declared.error.BookError as book
 use Rattle.recipe_turn.specs.Checked.{AreValid}
 use Rattle.elbow_graph.specs.States.{HasStates}
-use Rattle.recipe_book.specs.Checked.{most_states}
+use Rattle.recipe_book.specs.Checked.{CheckedEntries, most_states}
 use Rattle.recipe_book.specs.Entries.{AreTheSound}
 use Rattle.recipe_book.specs.Refusals.{BookIsRefused}
 use Rattle.recipe_book.specs.declared.refusal.BookRefusal as check
-use Rattle.stream_time.specs.declared.building.PlanError.TheVariants.{NoClosing}
+use Rattle.build_plan.specs.declared.plan.Plan.{Plan}
+use Rattle.build_plan.specs.declared.error.PlanError.{PlanError}
+use Rattle.build_plan.specs.declared.error.PlanError.TheVariants as stop
+use Rattle.build_plan.specs.Plan.{IsPlan}
+use Rattle.build_plan.specs.Stops.{PlanStops}
 use Rattle.life_cli.specs.declared.status.Which.{Which}
 use Rattle.life_cli.specs.declared.status.Status.{Status}
-use Rattle.life_cli.specs.declared.status.Status.TheVariants.{TooLong, BadRle, BadBookText, BadTarget, BadBook, NoPlan, StreamLong, NotYet}
+use Rattle.life_cli.specs.declared.status.Status.TheVariants.{TooLong, BadRle, BadBookText, BadTarget, BadBook, NoPlan, StreamLong}
 use Rattle.life_cli.specs.Requests.{Request}
 use Rattle.life_cli.specs.Requests.Request.{Check, Compile, Replay}
 use Rattle.life_cli.specs.Exact.{IsExact, AreExact}
 use Rattle.life_cli.specs.Book.{ReadsAsBook, PassesTests, TestsRefuse}
-use Rattle.life_cli.specs.Inputs.{IsHeld, IsLong, Holds, FetchRefuses, IsUnread, BookTextStops, ReadsAsPattern, PatternTextStops}
-use Rattle.life_cli.specs.Compiled.{TargetRefuses, CellRefuses, CanClose, PlanRefuses}
+use Rattle.life_cli.specs.Inputs.{IsHeld, Holds, FetchRefuses, IsUnread, BookTextStops, ReadsAsPattern, PatternTextStops}
+use Rattle.life_cli.specs.Compiled.{TargetRefuses, HasPlan, PlanRefuses}
 use Rattle.life_cli.specs.Run.{stages_of}
+use Rattle.life_cli.proofs.OneBook.{OneTurns, OneSalvos, OneHits, one_book}
 
--- the laws of the parts: a text says one book and means one plane, one that is read has no refusal, and neither has a target or a book that passes its tests
+-- the laws of the parts: a text says one book and means one plane, one that is read has no refusal, and neither has a target or a book that passes
+-- its tests; such a book is one; and where it has a plan, planning doesn't stop
 pub record PartsAreExact : Type 0 where
   pub one_book : (text : List ℕ) (a b : Said) → Says text a → Says text b → a ≡ b
   pub book_read : (text : List ℕ) (said : Said) (e : book.BookError) → Says text said → (said.settings.wall +ℤ WALL_MARGIN) ≤ℤ said.settings.reach → StopsWith text e → e ≡ book.TheVariants.Memory
   pub one_plane : (text : List ℕ) (s t : Plane) → Means text s → Means text t → s ≡ t
   pub pattern_read : (text : List ℕ) (e : rle.RleError) → IsFineText text → TextStopsWith text e → e ≢ rle.TheVariants.Memory → ⊥
   pub target_taken : (s : Plane) (e : target.TargetError) → IsTarget s → TargetIsRefused s e → e ≡ target.TheVariants.Memory
-  pub one_list : (settings : Settings) (kinds : List RawKind) (turns a b : List RawTurn) → AreTheSound settings kinds turns a → AreTheSound settings kinds turns b → a ≡ b
+  pub one_turns : OneTurns
+  pub one_salvos : OneSalvos
+  pub one_hits : OneHits
   pub book_taken : (settings : Settings) (hand : Cells) (kinds : List RawKind) (start : ℕ) (turns sound : List RawTurn) (count : ℕ) (e : check.BookRefusal) →
       AreValid settings kinds → IsStill (alive hand) → AreTheSound settings kinds turns sound → HasStates sound start settings.span most_states count →
       BookIsRefused settings hand kinds start turns e → e ≡ check.TheVariants.Memory
+  pub no_stop : (book : CheckedEntries) (target : Plane) (plan : Plan) (e : PlanError) → IsPlan book target plan → PlanStops book target e → e ≡ stop.Memory
 
 -- ---- texts
 
@@ -100,41 +107,31 @@ target_apart : PartsAreExact → (s : Plane) (status : Status) → IsTarget s �
 target_apart x s (BadTarget e) is r = r.0 (x.target_taken s e is r.1)
 target_apart x s other is r = absurd r
 
-cell_apart : (s : Plane) (status : Status) → s ≡ nothing → CellRefuses s status → ⊥
-cell_apart s (NotYet c) none first = let live = first.is in let dead = ap (λ (p : Plane). p c.x c.y) none in cc
-cell_apart s other none r = absurd r
-
-tests_are_exact : PartsAreExact → (said : Said) → IsExact (List RawTurn) (PassesTests said) (TestsRefuse said)
-tests_are_exact x said = record { one = λ a b h k. x.one_list said.settings said.kinds said.turns a b h.are k.are; apart = λ sound status h r. apart sound status h r }
+tests_are_exact : PartsAreExact → (said : Said) → IsExact CheckedEntries (PassesTests said) (TestsRefuse said)
+tests_are_exact x said = record { one = λ a b h k. one_book x.one_turns x.one_salvos x.one_hits said a b h k; apart = λ book status h r. apart book status h r }
   where
-    apart : (sound : List RawTurn) (status : Status) → PassesTests said sound → TestsRefuse said status → ⊥
-    apart sound (BadBook e) h r = r.0 (x.book_taken said.settings said.hand said.kinds said.start said.turns sound h.count e h.valid h.still h.are h.states r.1)
-    apart sound other h r = absurd r
+    apart : (book : CheckedEntries) (status : Status) → PassesTests said book → TestsRefuse said status → ⊥
+    apart book (BadBook e) h r = r.0 (x.book_taken said.settings said.hand said.kinds said.start said.turns _ h.count e h.valid h.still h.turns h.states r.1)
+    apart book other h r = absurd r
 
-plan_apart : (said : Said) (sound : List RawTurn) (status : Status) → CanClose said sound → PlanRefuses said sound status → ⊥
-plan_apart said sound (NoPlan (NoClosing kind shift)) h r = r.1.1 h.list h.closes
-plan_apart said sound (StreamLong count) h long =
-    let few = h.few long.list long.picked long.least long.are in
-    let many = long.many in
-    let is = long.count_is in
-    absurd (omega arith)
-plan_apart said sound other h r = absurd r
+plan_apart : PartsAreExact → (book : CheckedEntries) (target : Plane) (status : Status) → HasPlan book target → PlanRefuses book target status → ⊥
+plan_apart x book target (NoPlan (stop.NoRecipe island at)) h r = let is = x.no_stop book target h.0 (stop.NoRecipe island at) h.1 r in cc
+plan_apart x book target (NoPlan (stop.NoClosing kind shift)) h r = let is = x.no_stop book target h.0 (stop.NoClosing kind shift) h.1 r in cc
+plan_apart x book target (StreamLong count) h r = let is = x.no_stop book target h.0 (stop.StreamLong count) h.1 r in cc
+plan_apart x book target other h r = absurd r
 
 -- ---- requests
 
 pub requests_are_exact : PartsAreExact → (texts : List HeldText) (request : Request) → AreExact (stages_of (Some texts) request)
 requests_are_exact x texts (Check book) =
-    (input_is_exact ReadsAsBook BookTextStops texts book _ (book_is_exact x), λ said. (tests_are_exact x said, λ sound. tt))
+    (input_is_exact ReadsAsBook BookTextStops texts book _ (book_is_exact x), λ said. (tests_are_exact x said, λ checked. tt))
 requests_are_exact x texts (Compile book target) = (
   input_is_exact ReadsAsBook BookTextStops texts book _ (book_is_exact x),
   λ said. (
     input_is_exact ReadsAsPattern (PatternTextStops _) texts target _ (pattern_is_exact x _),
     λ s. (
       test_is_exact (IsTarget s) (TargetRefuses s) (target_apart x s),
-      λ _. (
-        test_is_exact (s ≡ nothing) (CellRefuses s) (cell_apart s),
-        λ _. (tests_are_exact x said, λ sound. (test_is_exact (CanClose said sound) (PlanRefuses said sound) (plan_apart said sound), λ _. tt)),
-      ),
+      λ _. (tests_are_exact x said, λ checked. (test_is_exact (HasPlan checked s) (PlanRefuses checked s) (plan_apart x checked s), λ _. tt)),
     ),
   ),
 )

@@ -5,8 +5,8 @@ mod StageLaws
 mod Notes
 mod Titles
 mod Generations
-mod FirstLive
 mod Written
 mod Gaining
 mod Ending
+mod OneBook
 mod Exactness

@@ -15,9 +15,9 @@ use Rattle.life_cli.specs.declared.status.Which.{Which}
 use Rattle.life_cli.specs.declared.status.Which.TheVariants.{Book, Target, Pattern}
 use Rattle.life_target.specs.declared.refusal.TargetError as target
 use Rattle.recipe_book.specs.declared.refusal.BookRefusal as check
-use Rattle.stream_time.specs.declared.building.PlanError as plan
+use Rattle.build_plan.specs.declared.error.PlanError as plan
 use Rattle.life_cli.specs.declared.status.Status.{Status}
-use Rattle.life_cli.specs.declared.status.Status.TheVariants.{Done, Words, ReadFault, TooLong, BadRle, BadBookText, BadTarget, BadBook, NoPlan, StreamLong, WriteFault, Memory, NotYet}
+use Rattle.life_cli.specs.declared.status.Status.TheVariants.{Done, Words, ReadFault, TooLong, BadRle, BadBookText, BadTarget, BadBook, NoPlan, StreamLong, WriteFault, Memory}
 
 abbrev pub which_text : Which → List ℕ
 which_text Book = codes "book"
@@ -82,6 +82,7 @@ refusal_text check.TheVariants.Memory = codes "memory"
 
 -- where the planner stops; the last is no text of a status
 abbrev pub plan_text : plan.PlanError → List ℕ
+plan_text (plan.TheVariants.NoRecipe island at) = codes "no recipe " ++ (decimal island ++ (codes " " ++ cell_text at))
 plan_text (plan.TheVariants.NoClosing kind shift) = codes "no closing " ++ (decimal kind ++ (codes " " ++ signed_decimal shift))
 plan_text (plan.TheVariants.StreamLong count) = codes "stream long " ++ decimal count
 plan_text plan.TheVariants.Memory = codes "memory"
@@ -100,7 +101,6 @@ status_text (NoPlan e) = plan_text e
 status_text (StreamLong count) = codes "stream long " ++ decimal count
 status_text WriteFault = codes "write fault"
 status_text Memory = []
-status_text (NotYet cell) = codes "not yet " ++ cell_text cell
 
 -- the line of a status
 abbrev pub error_line : Status → List ℕ

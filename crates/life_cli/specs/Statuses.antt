@@ -1,7 +1,7 @@
 -- The numbers of the statuses.
 use Rattle.std.specs.Prelude.{ℕ}
 use Rattle.life_cli.specs.declared.status.Status.{Status}
-use Rattle.life_cli.specs.declared.status.Status.TheVariants.{Done, Words, ReadFault, TooLong, BadRle, BadBookText, BadTarget, BadBook, NoPlan, StreamLong, WriteFault, Memory, NotYet}
+use Rattle.life_cli.specs.declared.status.Status.TheVariants.{Done, Words, ReadFault, TooLong, BadRle, BadBookText, BadTarget, BadBook, NoPlan, StreamLong, WriteFault, Memory}
 
 abbrev pub number_of : Status → ℕ
 number_of Done = 0
@@ -16,4 +16,3 @@ number_of (NoPlan e) = 7
 number_of (StreamLong count) = 8
 number_of WriteFault = 11
 number_of Memory = 12
-number_of (NotYet cell) = 13

@@ -4,7 +4,7 @@ ghost use Rattle.std.specs.Prelude.{◌≡◌, ◌≢◌, ◌+◌, ◌≤◌, If
 ghost use Rattle.life_cells.specs.Cells.{alive};
 ghost use Rattle.book_parts.specs.Proper.{IsProperBook};
 ghost use Rattle.recipe_book.specs.Verdicts.{AreVerdicts};
-ghost use Rattle.life_cli.specs.Book.{IsCheckedOf, TestsRefuse, most_tested};
+ghost use Rattle.life_cli.specs.Book.{PassesTests, TestsRefuse, most_tested};
 ghost use Rattle.life_cli.specs.Stages.{HasCause};
 
 use crate::status::Status;
@@ -21,7 +21,7 @@ pub(crate) fn test_book<L: Ledger>(
     steps: &mut Steps<L>,
 ) -> Result<(CheckedBook, Vec<Verdict>), Status>
     requires { IsProperBook book }
-    ensures ok { IfOk result (λ r. IsCheckedOf book r.0) }
+    ensures ok { IfOk result (λ r. PassesTests book r.0) }
     ensures verdicts { IfOk result (λ r. AreVerdicts book.settings book.kinds (alive book.hand) book.turns book.salvos r.1.items) }
     ensures err { IfErr result (λ status. HasCause ⊥ (TestsRefuse book) status) }
     ensures least { steps.old ≤ steps.new }

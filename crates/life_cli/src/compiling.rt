@@ -1,26 +1,23 @@
 //! The command `compile`.
 
 ghost use Rattle.std.specs.Prelude.{◌≡◌, ◌≢◌, ℕ, ◌+◌, ◌≤◌, ◌^◌, IfOk, IfErr};
-ghost use Rattle.life_plane.specs.Plane.{nothing};
+ghost use Rattle.life_plane.specs.Plane.{run};
 ghost use Rattle.life_cells.specs.Cells.{alive};
 ghost use Rattle.life_cells.specs.Boxes.{IsInRange};
 ghost use Rattle.life_target.specs.Targets.{IsTarget};
 ghost use Rattle.life_io.specs.Counts.{IsLaterCount, Rose};
 ghost use Rattle.life_io.specs.Texts.{Holds};
-ghost use Rattle.book_text.specs.Book.{Said};
 ghost use Rattle.book_parts.specs.Proper.{IsProperBook};
-ghost use Rattle.recipe_turn.specs.Checked.{raws};
-ghost use Rattle.stream_time.specs.Built.{IsBuilt};
-ghost use Rattle.life_cli.specs.Book.{IsCheckedOf};
+ghost use Rattle.stream_build.specs.Built.{IsBuilt};
 ghost use Rattle.life_cli.specs.Stages.{HasCause, EndWith};
-ghost use Rattle.life_cli.specs.Compiled.{TargetRefuses, CellRefuses, PlanRefuses, planning, building, compile};
+ghost use Rattle.life_cli.specs.Compiled.{TargetRefuses, PlanRefuses, planning, building, compile};
 
 use crate::books::test_book;
 use crate::inputs::{fetch_book, fetch_pattern};
 use crate::status::{Status, Which};
 use crate::writing::text_of_built;
 use book_parts::RawBook;
-use elbow_route::laws::least_lists_are_one;
+use build_plan::PlanError;
 use life_cells::CellSet;
 use life_io::Depot;
 use life_steps::Steps;
@@ -28,7 +25,7 @@ use life_target::{Target, TargetError};
 use recipe_book::CheckedBook;
 use std::alloc::Global;
 use std::sync::ledger::Ledger;
-use stream_time::{Built, PlanError, compile as build};
+use stream_build::{Built, compile as build};
 
 // Refuses a set of cells that is no target.
 fn target_of<L: Ledger>(
@@ -50,39 +47,31 @@ fn target_of<L: Ledger>(
     }
 }
 
-// Refuses a target with a live cell.
-fn require_empty(alloc: Global, target: &Target) -> Result<(), Status>
-    ensures ok { IfOk result (λ _. alive target.now ≡ nothing) }
-    ensures err { IfErr result (λ status. HasCause ⊥ (CellRefuses (alive target.now)) status) }
+// What a checked book builds for a target.
+fn plan(alloc: Global, book: &CheckedBook, target: &Target) -> Result<Built, Status>
+    ensures ok { IfOk result (λ built. IsBuilt book.now (alive target.now) built) }
+    ensures range { IfOk result (λ built. IsInRange (2 ^ 58) (alive built.pattern)) }
+    ensures exact { IfOk result (λ built. run built.n (alive built.pattern) ≡ alive target.now) }
+    ensures err { IfErr result (λ status. HasCause ⊥ (PlanRefuses book.now (alive target.now)) status) }
 {
-    match target.cells().first_difference(&CellSet::empty(alloc)) {
-        None => Ok(()),
-        Some(cell) => Err(Status::NotYet { cell }),
-    }
-}
-
-// What a checked book builds.
-fn plan(alloc: Global, book: &CheckedBook) -> Result<Built, Status>
-    ensures ok { IfOk result (λ built. IsBuilt book.now built) }
-    ensures err { (said : Said) → IsCheckedOf said book.now → IfErr result (λ status. HasCause ⊥ (PlanRefuses said (raws book.now.turns)) status) }
-{
-    match build(alloc, book) {
+    match build(alloc, book, target) {
         Ok(built) => Ok(built),
         Err(PlanError::Memory) => Err(Status::Memory),
         Err(PlanError::StreamLong { count }) => Err(Status::StreamLong { count }),
+        Err(PlanError::NoRecipe { island, at }) => {
+            Err(Status::NoPlan(PlanError::NoRecipe { island, at }))
+        }
         Err(PlanError::NoClosing { kind, shift }) => {
             Err(Status::NoPlan(PlanError::NoClosing { kind, shift }))
         }
     }
 }
 
-// The text of what a checked book builds.
-fn text_of_plan(alloc: Global, book: &CheckedBook) -> Result<Vec<u8>, Status>
-    ensures { (said : Said) (count : ℕ) → IsCheckedOf said book.now → EndWith (planning said (raws book.now.turns) nothing) ⊥ count count result }
+// The text of what a checked book builds for a target.
+fn text_of_plan(alloc: Global, book: &CheckedBook, target: &Target) -> Result<Vec<u8>, Status>
+    ensures { (count : ℕ) → EndWith (planning book.now (alive target.now)) ⊥ count count result }
 {
-    // This says that a least list is the only one; it does nothing.
-    least_lists_are_one();
-    let built = plan(alloc, book)?;
+    let built = plan(alloc, book, target)?;
     let text = text_of_built(alloc, built)?;
     Ok(text)
 }
@@ -100,9 +89,8 @@ fn answer_of<L: Ledger>(
     ensures steps { steps.old ≤ steps.new }
 {
     let target = target_of(alloc, cells, steps)?;
-    require_empty(alloc, &target)?;
     let (book, _) = test_book(alloc, book, steps)?;
-    text_of_plan(alloc, &book)
+    text_of_plan(alloc, &book, &target)
 }
 
 /// The text that answers `compile` for the texts of these names.

@@ -13,9 +13,11 @@ ghost use Rattle.life_cli.specs.declared.status.Status.{Status};
 use crate::status::Status;
 use crate::words::WordsError;
 use book_read::laws::{books_have_no_refusal, texts_say_one_book};
+use build_plan::laws::plans_have_no_stop;
 use life_rle::laws::{fine_texts_have_no_refusal, texts_mean_one_plane};
 use life_target::laws::targets_have_no_refusal;
-use recipe_book::laws::{sound_turns_are_one, taken_books_have_no_refusal};
+use recipe_book::laws::{sound_salvos_are_one, sound_turns_are_one, taken_books_have_no_refusal};
+use recipe_hit::laws::salvos_have_one_list_of_hits;
 
 /// Words ask for one request at most.
 pub fn words_ask_for_one_request()
@@ -43,7 +45,10 @@ pub fn stages_are_exact()
     fine_texts_have_no_refusal();
     targets_have_no_refusal();
     sound_turns_are_one();
+    sound_salvos_are_one();
+    salvos_have_one_list_of_hits();
     taken_books_have_no_refusal();
+    plans_have_no_stop();
 }
 
 /// Where each stage of a request passes, none refuses.

@@ -16,9 +16,9 @@ mod verdict_lines;
 pub mod words;
 mod writing;
 
+pub use build_plan::PlanError;
 pub use life_target::TargetError;
 pub use recipe_book::BookRefusal;
 pub use run::life_run;
 pub use status::{Status, Which};
-pub use stream_time::PlanError;
 pub use words::{Command, WordsError, read_words};

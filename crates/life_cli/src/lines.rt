@@ -7,11 +7,11 @@ ghost use Rattle.life_cli.specs.ErrorLines.{which_text, words_text, rle_text, fa
 use crate::status::{Status, Which};
 use crate::words::WordsError;
 use book_text::{BookError, LineFault};
+use build_plan::PlanError;
 use life_rle::RleError;
 use life_target::TargetError;
 use recipe_book::BookRefusal;
 use std::alloc::{AllocError, Global};
-use stream_time::PlanError;
 
 fn which_text(which: Which) -> &'static str
     ensures { result.now ≡ which_text which }
@@ -123,6 +123,10 @@ fn plan_text(alloc: Global, stop: PlanError) -> Result<String, AllocError>
     ensures { IfOk result (λ text. string_bytes text ≡ plan_text stop) }
 {
     match stop {
+        PlanError::NoRecipe { island, at } => {
+            let (x, y) = (at.x, at.y);
+            format!(in alloc; "no recipe {island} {x} {y}")
+        }
         PlanError::NoClosing { kind, shift } => format!(in alloc; "no closing {kind} {shift}"),
         PlanError::StreamLong { count } => format!(in alloc; "stream long {count}"),
         PlanError::Memory => String::from_str(alloc, "memory"),
@@ -157,10 +161,6 @@ fn status_text(alloc: Global, status: Status) -> Result<String, AllocError>
         Status::BadBook(refusal) => refusal_text(alloc, refusal),
         Status::NoPlan(stop) => plan_text(alloc, stop),
         Status::StreamLong { count } => format!(in alloc; "stream long {count}"),
-        Status::NotYet { cell } => {
-            let (x, y) = (cell.x, cell.y);
-            format!(in alloc; "not yet {x} {y}")
-        }
         Status::WriteFault => String::from_str(alloc, "write fault"),
     }
 }

@@ -6,12 +6,12 @@ ghost use Rattle.life_cli.specs.declared.status.Status.TheVariants.{Memory};
 
 use crate::words::WordsError;
 use book_text::BookError;
-use life_cells::{Cell, NoMemory};
+use build_plan::PlanError;
+use life_cells::NoMemory;
 use life_rle::RleError;
 use life_target::TargetError;
 use recipe_book::BookRefusal;
 use std::alloc::AllocError;
-use stream_time::PlanError;
 
 /// Which text is meant.
 #[derive(Clone, Copy, Debug, PartialEq, Eq)]
@@ -48,7 +48,7 @@ pub enum Status {
     BadTarget(TargetError),
     /// The book is refused.
     BadBook(BookRefusal),
-    /// No plan was found.
+    /// The book has no plan for the target.
     NoPlan(PlanError),
     /// The stream has more than 2^20 gliders.
     StreamLong {
@@ -59,11 +59,6 @@ pub enum Status {
     WriteFault,
     /// There was no memory.
     Memory,
-    /// The target has a live cell, and such targets are not compiled yet.
-    NotYet {
-        /// Its first live cell.
-        cell: Cell,
-    },
 }
 
 impl Status {
@@ -83,7 +78,6 @@ impl Status {
             Status::StreamLong { .. } => 8,
             Status::WriteFault => 11,
             Status::Memory => 12,
-            Status::NotYet { .. } => 13,
         }
     }
 }

@@ -1,7 +1,4 @@
--- Lemmas on streams.
-pub mod Gliding
+-- Lemmas on schedules.
 pub mod Numbers
-pub mod SoFar
-pub mod Whole
 pub mod Places
 pub mod PlanSoFar

@@ -9,7 +9,10 @@ returns c =
       one_plane = c.texts_mean_one_plane.ensures;
       pattern_read = c.fine_texts_have_no_refusal.ensures;
       target_taken = c.targets_have_no_refusal.ensures;
-      one_list = c.sound_turns_are_one.ensures;
+      one_turns = c.sound_turns_are_one.ensures;
+      one_salvos = c.sound_salvos_are_one.ensures;
+      one_hits = c.salvos_have_one_list_of_hits.ensures;
       book_taken = c.taken_books_have_no_refusal.ensures;
+      no_stop = c.plans_have_no_stop.ensures;
     } in
     requests_are_exact exact
