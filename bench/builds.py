@@ -42,6 +42,35 @@ def expected_of(path):
     return lines, numbers, refusal
 
 
+def events_of(lines):
+    """The turns and hits of an expected plan as the program of cases shows them: without names and times."""
+    events = []
+    for line in lines:
+        words = line.split()
+        if words[0] == "turn":
+            events.append(f"turn {words[1]} at {words[4]}")
+        elif words[0] == "hit":
+            events.append(" ".join(words[:2] + words[3:8]))
+    return events
+
+
+def most_in_flight(lines, book):
+    """The greatest number of thrown gliders that are on their way, or whose hit is not over, at one moment of an expected plan."""
+    with open(book) as file:
+        lengths = {words[1]: int(words[6]) for words in (line.split() for line in file) if words[:1] == ["turn"] and words[3] == "emit"}
+    moments, thrown = [], 0
+    for words in (line.split() for line in lines):
+        if words[0] == "turn" and words[2] in lengths:
+            thrown = int(words[6]) + lengths[words[2]]
+        elif words[0] == "hit":
+            moments += [(thrown, 1), (int(words[9]), -1)]
+    most = now = 0
+    for _, change in sorted(moments):
+        now += change
+        most = max(most, now)
+    return most
+
+
 def compiled(program, book, target):
     """The answer, the line of refusal, and the seconds."""
     begin = time.monotonic()
@@ -111,7 +140,7 @@ def scenes(top, program, folder):
     for name in sorted(os.listdir(os.path.join(top, "bench", "expected"))):
         scene, book, _ = name.split(".")
         target = os.path.join(top, "examples", "scenes", f"{scene}.rle")
-        _, numbers, refusal = expected_of(os.path.join(top, "bench", "expected", name))
+        lines, numbers, refusal = expected_of(os.path.join(top, "bench", "expected", name))
         text, said, seconds = compiled(program, paths[book], target)
         fault = fault_of(text, said, numbers, refusal)
         tell(scene, book, seconds, checking[book], fault or refusal or "as expected")
@@ -127,4 +156,5 @@ def scenes(top, program, folder):
             runs.append("replay: " + word_of(replayed(program, path, numbers["generations"], wanted)))
         if golly:
             runs.append("bgolly: " + word_of(run_by_golly(golly, folder, path, numbers["generations"], wanted)))
-        print(f"    {numbers['generations']} generations, {numbers['gliders']} gliders; " + "; ".join(runs), flush=True)
+        flying = most_in_flight(lines, paths[book])
+        print(f"    {numbers['generations']} generations, {numbers['gliders']} gliders, {flying} thrown ones in flight at once; " + "; ".join(runs), flush=True)
