@@ -8,6 +8,7 @@ import os
 import re
 import shutil
 import subprocess
+import tempfile
 import time
 
 # The longest that a pattern is run for by the program itself.
@@ -72,10 +73,16 @@ def most_in_flight(lines, book):
 
 
 def compiled(program, book, target):
-    """The answer, the line of refusal, and the seconds."""
-    begin = time.monotonic()
-    run = subprocess.run([program, "compile", book, target], stdout=subprocess.PIPE, stderr=subprocess.PIPE, text=True)
-    return run.stdout, run.stderr.strip().removeprefix("life: "), time.monotonic() - begin
+    """The answer, the line of refusal, the seconds and the most kilobytes."""
+    with tempfile.TemporaryFile("w+") as out, tempfile.TemporaryFile("w+") as err:
+        begin = time.monotonic()
+        child = subprocess.Popen([program, "compile", book, target], stdout=out, stderr=err)
+        _, status, usage = os.wait4(child.pid, 0)
+        seconds = time.monotonic() - begin
+        child.returncode = os.waitstatus_to_exitcode(status)
+        out.seek(0)
+        err.seek(0)
+        return out.read(), err.read().strip().removeprefix("life: "), seconds, usage.ru_maxrss
 
 
 def fault_of(text, said, numbers, refusal):
@@ -125,9 +132,10 @@ def checked(program, book):
     return time.monotonic() - begin
 
 
-def tell(scene, book, seconds, checking, said):
-    """A compile's seconds, and how much of them is beside the book's check: planning, timing, laying out and writing."""
-    print(f"{f'compile of {scene} over {book}.book':<58} {seconds:8.3f} s  {seconds - checking:.3f} s beside its check of {checking:.3f} s; {said}", flush=True)
+def tell(scene, book, seconds, memory, checking, said):
+    """A compile's seconds and memory, and how much of the time is beside the book's check: planning, timing, laying out and writing."""
+    beside = f"{seconds - checking:.3f} s beside its check of {checking:.3f} s"
+    print(f"{f'compile of {scene} over {book}.book':<58} {seconds:8.3f} s {memory / 1024:8.1f} MiB  {beside}; {said}", flush=True)
 
 
 def scenes(top, program, folder):
@@ -135,15 +143,15 @@ def scenes(top, program, folder):
     golly = shutil.which("bgolly")
     paths = {book: os.path.join(top, "examples", "books", f"{book}.book") for book in ("mini", "mid", "hub")}
     checking = {book: checked(program, path) for book, path in paths.items()}
-    text, said, seconds = compiled(program, paths["hub"], os.path.join(top, "examples", "scenes", "grid400.rle"))
-    tell("grid400", "hub", seconds, checking["hub"], said or re.search(r"^#C (generations \d+)$", text, re.M)[1])
+    text, said, seconds, memory = compiled(program, paths["hub"], os.path.join(top, "examples", "scenes", "grid400.rle"))
+    tell("grid400", "hub", seconds, memory, checking["hub"], said or re.search(r"^#C (generations \d+)$", text, re.M)[1])
     for name in sorted(os.listdir(os.path.join(top, "bench", "expected"))):
         scene, book, _ = name.split(".")
         target = os.path.join(top, "examples", "scenes", f"{scene}.rle")
         lines, numbers, refusal = expected_of(os.path.join(top, "bench", "expected", name))
-        text, said, seconds = compiled(program, paths[book], target)
+        text, said, seconds, memory = compiled(program, paths[book], target)
         fault = fault_of(text, said, numbers, refusal)
-        tell(scene, book, seconds, checking[book], fault or refusal or "as expected")
+        tell(scene, book, seconds, memory, checking[book], fault or refusal or "as expected")
         if fault or refusal:
             continue
         path = os.path.join(folder, "built.rle")
