@@ -17,3 +17,4 @@ pub mod Firsts
 pub mod FirstLaws
 pub mod PlaceLaws
 pub mod MovedLaws
+pub mod BoxRangeLaws

@@ -5,6 +5,7 @@ ghost use Rattle.life_kernel.specs.Rows.{test, next_cell};
 
 use std::simd::Simd;
 
+/// The next generation of some strips: eight bit planes are added, in as many lanes as there are strips.
 macro_rules! next_generation {
     ($lanes:literal, $above:ident, $here:ident, $below:ident, $west:ident, $east:ident) => {{
         let one = Simd::<u64, $lanes>::splat(1);
@@ -37,6 +38,7 @@ macro_rules! next_generation {
     }};
 }
 
+/// The ends of one strip as words.
 #[inline(always)]
 fn widened_1(ends: Simd<u8, 1>) -> Simd<u64, 1>
     ensures { result ≡ ends }
@@ -44,6 +46,7 @@ fn widened_1(ends: Simd<u8, 1>) -> Simd<u64, 1>
     ends.cast::<u64>()
 }
 
+/// The next generation of one strip, by lanes.
 #[inline(always)]
 fn strips_1(
     above: Simd<u64, 1>,
@@ -58,6 +61,7 @@ fn strips_1(
     next_generation!(1, above, here, below, west, east)
 }
 
+/// The ends of two strips as words.
 #[inline(always)]
 fn widened_2(ends: Simd<u8, 2>) -> Simd<u64, 2>
     ensures { result ≡ ends }
@@ -65,6 +69,7 @@ fn widened_2(ends: Simd<u8, 2>) -> Simd<u64, 2>
     ends.cast::<u64>()
 }
 
+/// The next generation of two strips, by lanes.
 #[inline(always)]
 fn strips_2(
     above: Simd<u64, 2>,
@@ -79,6 +84,7 @@ fn strips_2(
     next_generation!(2, above, here, below, west, east)
 }
 
+/// The ends of four strips as words.
 #[inline(always)]
 fn widened_4(ends: Simd<u8, 4>) -> Simd<u64, 4>
     ensures { result ≡ ends }
@@ -86,6 +92,7 @@ fn widened_4(ends: Simd<u8, 4>) -> Simd<u64, 4>
     ends.cast::<u64>()
 }
 
+/// The next generation of four strips, by lanes.
 #[inline(always)]
 fn strips_4(
     above: Simd<u64, 4>,
@@ -100,6 +107,7 @@ fn strips_4(
     next_generation!(4, above, here, below, west, east)
 }
 
+/// The ends of eight strips as words.
 #[inline(always)]
 fn widened_8(ends: Simd<u8, 8>) -> Simd<u64, 8>
     ensures { result ≡ ends }
@@ -107,6 +115,7 @@ fn widened_8(ends: Simd<u8, 8>) -> Simd<u64, 8>
     ends.cast::<u64>()
 }
 
+/// The next generation of eight strips, by lanes.
 #[inline(always)]
 fn strips_8(
     above: Simd<u64, 8>,
@@ -121,6 +130,7 @@ fn strips_8(
     next_generation!(8, above, here, below, west, east)
 }
 
+/// The same from and into slices.
 fn fill_1(above: &[u64], here: &[u64], below: &[u64], west: &[u8], east: &[u8], next: &mut [u64])
     requires above { length above.now ≡ 1 }
     requires here { length here.now ≡ 1 }
@@ -141,6 +151,7 @@ fn fill_1(above: &[u64], here: &[u64], below: &[u64], west: &[u8], east: &[u8], 
     .copy_to_slice(next);
 }
 
+/// The same from and into slices.
 fn fill_2(above: &[u64], here: &[u64], below: &[u64], west: &[u8], east: &[u8], next: &mut [u64])
     requires above { length above.now ≡ 2 }
     requires here { length here.now ≡ 2 }
@@ -161,6 +172,7 @@ fn fill_2(above: &[u64], here: &[u64], below: &[u64], west: &[u8], east: &[u8], 
     .copy_to_slice(next);
 }
 
+/// The same from and into slices.
 fn fill_4(above: &[u64], here: &[u64], below: &[u64], west: &[u8], east: &[u8], next: &mut [u64])
     requires above { length above.now ≡ 4 }
     requires here { length here.now ≡ 4 }
@@ -181,6 +193,7 @@ fn fill_4(above: &[u64], here: &[u64], below: &[u64], west: &[u8], east: &[u8], 
     .copy_to_slice(next);
 }
 
+/// The same from and into slices.
 fn fill_8(above: &[u64], here: &[u64], below: &[u64], west: &[u8], east: &[u8], next: &mut [u64])
     requires above { length above.now ≡ 8 }
     requires here { length here.now ≡ 8 }

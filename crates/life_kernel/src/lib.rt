@@ -1,7 +1,7 @@
 //! Conway's rule on rows of 64 cells at a time: bit k of a word is the cell in column k, and bit 0 is the westmost.
 #![tactic(auto)]
 
-// The sum of two bits in each place of two words: its ones and its twos.
+/// The sum of two bits in each place of two words: its ones and its twos.
 macro_rules! half_add {
     ($x:expr, $y:expr) => {{
         let x = $x;
@@ -10,7 +10,7 @@ macro_rules! half_add {
     }};
 }
 
-// The same of three bits.
+/// The same of three bits.
 macro_rules! full_add {
     ($x:expr, $y:expr, $z:expr) => {{
         let x = $x;

@@ -15,7 +15,7 @@ pub struct Row {
     pub east: u64,
 }
 
-// The western neighbour of each cell of a word.
+/// The western neighbour of each cell of a word.
 #[inline(always)]
 fn western(here: u64, west: u64) -> u64
     ensures { (end : Bool) (k : ℕ) → k < 64 → test result k ≡ column here (test west 63) end k }
@@ -23,7 +23,7 @@ fn western(here: u64, west: u64) -> u64
     here << 1 | west >> 63 & 1
 }
 
-// The eastern neighbour of each cell of a word.
+/// The eastern neighbour of each cell of a word.
 #[inline(always)]
 fn eastern(here: u64, east: u64) -> u64
     ensures { (end : Bool) (k : ℕ) → k < 64 → test result k ≡ column here end (test east 0) (suc (suc k)) }

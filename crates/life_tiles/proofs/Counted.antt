@@ -25,7 +25,7 @@ use Rattle.life_tiles.specs.Pruning.{EachLives}
 use Rattle.life_tiles.specs.Tiling.{place, same_place, index_of, word_at, cells_of, set_of, HasTile, IsTiled, IsEmptyTile, IsLiveTile}
 use Rattle.life_tiles.proofs.Tiling.{same_place_is, same_place-itself, member_at, index_is, live_index, tile_at_index}
 use Rattle.life_tiles.proofs.Lists.{same_answers, alive-set_of}
-use Rattle.life_tiles.proofs.Pruned.{dark_none}
+use Rattle.life_tiles.proofs.Bits.{dark_none}
 
 same_place_equiv : IsEquivalence same_place
 same_place_equiv = and_equiv (on_equiv (λ (p : Place). p.row) int_eq_equiv) (on_equiv (λ (p : Place). p.column) int_eq_equiv)

@@ -1,10 +1,10 @@
 -- Tiles that are given back.
-use Rattle.std.proofs.Common.{◌≡◌, ◌⊎◌, ℕ, zero, suc, ◌+◌, ◌*◌, ◌^◌, ◌<◌, ◌≤◌, ◌==◌, Bool, true, false, ℤ, pos, List, [], ◌∷◌, ◌++◌, length, slice_get, slice_index, Some, Ok, Err, refl, sym, ap, subst, ◌∙◌, arith, inl, inr, w64, length-append}
-use Rattle.std.specs.Int.{bit_at}
+use Rattle.std.proofs.Common.{◌≡◌, ◌≢◌, ◌⊎◌, ℕ, ◌+◌, ◌-◌, ◌*◌, ◌^◌, ◌<◌, ◌≤◌, ◌==◌, Bool, true, false, ℤ, pos, List, [], ◌∷◌, ◌++◌, length, slice_get, slice_index, Some, Ok, Err, refl, sym, ap, subst, ◌∙◌, arith, inl, inr, w64, length-append}
+use Rattle.std.specs.Int.{trailing_zeros}
 use Rattle.std.specs.List.{IsDistinct, list_any}
 use Rattle.std.specs.Prelude.{Result, IsOk, IfOk}
 use Rattle.std.proofs.lemmas.Bool.{cases_lt}
-use Rattle.std.proofs.lemmas.Nat.Bits.{bit_at-zero, bit_at-lt, bit_at-trailing_zeros, same_from_bits}
+use Rattle.std.proofs.lemmas.Nat.Bits.{bit_at-trailing_zeros}
 use Rattle.std.proofs.lemmas.Option.{slice_get_within, slice_get-get_or}
 use Rattle.indexmap.specs.IndexSet.{spare}
 use Rattle.life_kernel.specs.Rows.{test}
@@ -13,7 +13,11 @@ use Rattle.life_kernel.specs.WordLaws.{offset_below}
 use Rattle.life_plane.specs.ListLaws.{same_item}
 use Rattle.life_tiles.specs.declared.place.Place.{Place}
 use Rattle.life_tiles.specs.declared.tile_map.TileMap.{TileMap}
-use Rattle.life_tiles.specs.Tiling.{place, index_of, same_place, word_at, words_of, HasTile, IsTiled, IsEmptyTile, IsLiveTile}
+use Rattle.life_tiles.specs.declared.span.Span.{Span}
+use Rattle.life_tiles.specs.Spans.{IsAwake}
+use Rattle.life_tiles.specs.Stepping.{IsFresh}
+use Rattle.life_tiles.specs.Tiling.{place, index_of, same_place, word_at, words_of, HasTile, IsTiled, AreNear, AreLinked, IsQuiet, IsEmptyTile, IsLiveTile}
+use Rattle.life_tiles.proofs.Bits.{no_bit, dark_none}
 use Rattle.life_tiles.specs.Pruning.{EachLives, IsKeeping, SkipsTile, KeepsTile, Keeps}
 use Rattle.life_tiles.proofs.Tiling.{no_word, index_is, index_within, tile_at_index, member_at, slice_get_left, last_item, pushed_item}
 
@@ -22,30 +26,29 @@ none = place (pos 0) (pos 0)
 
 -- ---- live cells
 
-no_bit : (w : ℕ) → ((k : ℕ) → test w k ≡ true → ⊥) → w ≡ 0
-unfolding test
-no_bit w none = same_from_bits w 0 (λ k. by k (bit_at w k) refl (bit_at-lt w k) ∙ sym (bit_at-zero k))
-  where
-    by : (k d : ℕ) → bit_at w k ≡ d → d < 2 → bit_at w k ≡ 0
-    by k zero e h = e
-    by k (suc zero) e h = absurd (none k (ap (λ n. n == 1) e))
-    by k (suc (suc d)) e h = absurd (omega arith)
-
-pub dark_none : (w k : ℕ) → w ≡ 0 → test w k ≡ true → ⊥
-unfolding test
-dark_none w k e h = let dark : (bit_at w k == 1) ≡ false = ap (λ n. bit_at n k == 1) e ∙ ap (λ n. n == 1) (bit_at-zero k) in cc
-
 -- a tile of which no column has a live cell is empty
-pub empty_tile : (rows : List ℕ) (index any : ℕ) → any ≡ 0 → ((down k : ℕ) → down < 64 → test (slice_index rows (64 * index + down)) k ≡ true → test any k ≡ true) → IsEmptyTile rows index
-empty_tile rows index any none has = record { words = λ down h. no_bit (slice_index rows (64 * index + down)) (λ k live. dark_none any k none (has down k h live)) }
+pub empty_tile : (rows words : List ℕ) (index any : ℕ) → words ≡ rows → any ≡ 0 → ((j k : ℕ) → 64 * index ≤ j → j < 64 * index + 64 → test (slice_index words j) k ≡ true → test any k ≡ true) → IsEmptyTile rows index
+empty_tile rows words index any same none has = record {
+  words = λ down h. no_bit (slice_index rows (64 * index + down)) (λ k live. dark_none any k none (has (64 * index + down) k (omega arith) (omega arith) (ap (λ (ws : List ℕ). test (slice_index ws (64 * index + down)) k) same ∙ live)));
+}
 
 -- a tile of which some column has a live cell has one
-pub live_tile : (rows : List ℕ) (index any : ℕ) → 0 < any → any < 2 ^ 64 → ((k : ℕ) → test any k ≡ true → (down : ℕ) × (down < 64) × (test (slice_index rows (64 * index + down)) k ≡ true)) → IsLiveTile rows index
+pub live_tile : (rows words : List ℕ) (index any : ℕ) → words ≡ rows → any ≢ 0 → any < 2 ^ 64 → ((k : ℕ) → test any k ≡ true → (j : ℕ) × (64 * index ≤ j) × (j < 64 * index + 64) × (test (slice_index words j) k ≡ true)) → IsLiveTile rows index
 unfolding test
-live_tile rows index any some fits has =
+live_tile rows words index any same other fits has =
+    let some : 0 < any = omega arith in
     let first = bit_at-trailing_zeros w64 any some fits in
     let found = has _ (ap (λ n. n == 1) first.1) in
-    record { down = found.0; right = _; below = found.1; within = first.0; lives = found.2 }
+    let low = found.1 in
+    let high = found.2 in
+    let is : 64 * index + (found.0 - 64 * index) ≡ found.0 = omega arith in
+    record {
+      down = found.0 - 64 * index;
+      right = trailing_zeros w64 any;
+      below = omega arith;
+      within = first.0;
+      lives = ap (λ j. test (slice_index rows j) (trailing_zeros w64 any)) is ∙ ap (λ (ws : List ℕ). test (slice_index ws found.0) (trailing_zeros w64 any)) (sym same) ∙ found.3;
+    }
 
 -- what holds where a call succeeds
 pub from_ok : {T E : Type 0} (r : Result T E) (P : Type 0) → IsOk r → IfOk r (λ x. P) → P
@@ -74,6 +77,9 @@ pub record IsKept (first now : TileMap) (index k : ℕ) (p : Place) : Type 0 whe
 pub record KeepsTo (first now : TileMap) (index : ℕ) : Type 0 where
   pub places : now.places ≡ first.places
   pub next : now.next ≡ first.next
+  pub beside : now.beside ≡ first.beside
+  pub awake : now.awake ≡ first.awake
+  pub waking : now.waking ≡ first.waking
   pub room : now.room ≡ first.room
   pub spare : now.room ≤ length now.kept.keys + spare now.kept
   pub distinct : IsDistinct same_place now.kept.keys
@@ -83,17 +89,20 @@ pub record KeepsTo (first now : TileMap) (index : ℕ) : Type 0 where
   pub kept : (k : ℕ) (p : Place) → slice_get now.kept.keys k ≡ Some p → IsKept first now index k p
   pub all : (i : ℕ) (p : Place) → i < index → slice_get first.places.keys i ≡ Some p → IsEmptyTile first.rows.items i ⊎ HasTile now.kept.keys p.column p.row
 
-distinct_none : (eq : Place → Place → Bool) (ks : List Place) → ks ≡ [] → IsDistinct eq ks
+pub distinct_none : (eq : Place → Place → Bool) (ks : List Place) → ks ≡ [] → IsDistinct eq ks
 unfolding IsDistinct
 distinct_none eq ks e = subst (IsDistinct eq) (sym e) tt
 
-none_there : (ks : List Place) (k : ℕ) (p : Place) → ks ≡ [] → slice_get ks k ≡ Some p → ⊥
+pub none_there : (ks : List Place) (k : ℕ) (p : Place) → ks ≡ [] → slice_get ks k ≡ Some p → ⊥
 none_there ks k p e h = let no : slice_get [] k ≡ Some p = ap (λ (xs : List Place). slice_get xs k) (sym e) ∙ h in cc
 
 pub keeps_begin : (first : TileMap) → IsTiled first → KeepsTo first first 0
 keeps_begin first tiled = record {
   places = refl;
   next = refl;
+  beside = refl;
+  awake = refl;
+  waking = refl;
   room = refl;
   spare = tiled.room.kept;
   distinct = distinct_none same_place first.kept.keys tiled.none;
@@ -133,6 +142,9 @@ module _ (first now : TileMap) (index : ℕ) (tiled : IsTiled first) (within : i
     skipped skips = record {
       places = keeps.places ∙ done.places;
       next = keeps.next ∙ done.next;
+      beside = keeps.beside ∙ done.beside;
+      awake = keeps.awake ∙ done.awake;
+      waking = keeps.waking ∙ done.waking;
       room = keeps.room ∙ done.room;
       spare = keeps.spare;
       distinct = keeps.distinct done.distinct;
@@ -156,6 +168,9 @@ module _ (first now : TileMap) (index : ℕ) (tiled : IsTiled first) (within : i
         record {
           places = keeps.places ∙ done.places;
           next = keeps.next ∙ done.next;
+          beside = keeps.beside ∙ done.beside;
+          awake = keeps.awake ∙ done.awake;
+          waking = keeps.waking ∙ done.waking;
           room = keeps.room ∙ done.room;
           spare = keeps.spare;
           distinct = keeps.distinct done.distinct;
@@ -195,6 +210,12 @@ module _ (first now : TileMap) (index : ℕ) (tiled : IsTiled first) (within : i
 
 -- ---- all tiles
 
+-- the tiles that are kept are near
+pub kept_near : (first now : TileMap) (index : ℕ) (ks : List Place) → IsTiled first → KeepsTo first now index → ks ≡ now.kept.keys → AreNear ks
+kept_near first now index ks tiled done places = record {
+  each = λ i p h. let was = done.kept i p (ap (λ (xs : List Place). slice_get xs i) (sym places) ∙ h) in tiled.near.each was.from p was.at;
+}
+
 -- words that are cleared up to those that were 0
 pub cleared_from : (from to : ℕ) (old new : List ℕ) → ((j : ℕ) → from ≤ j → j < to → slice_index new j ≡ 0) → ((j : ℕ) → (j < from) ⊎ (to ≤ j) → slice_index new j ≡ slice_index old j)
     → ((j : ℕ) → to ≤ j → slice_index old j ≡ 0) → (j : ℕ) → from ≤ j → slice_index new j ≡ 0
@@ -228,15 +249,20 @@ module _ (first now last : TileMap) (tiled : IsTiled first) (done : KeepsTo firs
 
   -- what holds of tiles holds of those that are left
   pub left_tiled : length last.rows.items ≡ length now.rows.items → length last.next.items ≡ length first.next.items → ((j : ℕ) → 64 * length now.kept.keys ≤ j → slice_index last.next.items j ≡ 0)
-      → last.room ≡ now.room → spare last.places ≡ spare now.kept → last.kept.keys ≡ [] → length first.places.keys + spare first.places ≤ spare last.kept → IsTiled last
-  left_tiled rows_same next_same next_cleared room_same spares emptied freed =
+      → last.room ≡ now.room → spare last.places ≡ spare now.kept → last.kept.keys ≡ [] → length first.places.keys + spare first.places ≤ spare last.kept
+      → AreLinked last.places.keys last.beside.items → length last.beside.items ≡ length first.beside.items → length last.awake.items ≡ length first.awake.items → last.waking ≡ first.waking → IsTiled last
+  left_tiled rows_same next_same next_cleared room_same spares emptied freed links beside_same awake_same waking_is =
       let few = done.few in
       let count : length last.places.keys ≡ length now.kept.keys = ap (λ (ks : List Place). length ks) places in
       let others_count : length last.kept.keys ≡ 0 = ap (λ (ks : List Place). length ks) emptied in
+      let waking_same : length last.waking.items ≡ length first.waking.items = rw waking_is refl in
       let was_few = tiled.room.few in
       let was_places = tiled.room.places in
       let was_rows = tiled.room.rows in
       let was_next = tiled.room.next in
+      let was_beside = tiled.room.beside in
+      let was_awake = tiled.room.awake in
+      let was_waking = tiled.room.waking in
       let uses = done.spare in
       let same = done.room in
       let long = done.long in
@@ -244,9 +270,19 @@ module _ (first now last : TileMap) (tiled : IsTiled first) (done : KeepsTo firs
         distinct = subst (IsDistinct same_place) (sym places) done.distinct;
         rows = record { long = omega arith; ends = λ j h. cleared j (omega arith) };
         next = record { long = omega arith; ends = λ j h. next_cleared j (omega arith) };
-        near = λ i p h. let was = done.kept i p (ap (λ (ks : List Place). slice_get ks i) (sym places) ∙ h) in tiled.near was.from p was.at;
-        room = record { few = omega arith; places = omega arith; kept = omega arith; rows = omega arith; next = omega arith };
+        near = kept_near first now (length first.places.keys) last.places.keys tiled done places;
+        links = links;
+        room = record { few = omega arith; places = omega arith; kept = omega arith; rows = omega arith; next = omega arith; beside = omega arith; awake = omega arith; waking = omega arith };
         none = emptied;
+      }
+
+  pub left_fresh : ((i row : ℕ) → i < length now.kept.keys → row < 64 → IsAwake last.awake.items i row) → last.waking ≡ first.waking → IsQuiet first → IsFresh last
+  left_fresh all waking_is quiet =
+      let few = done.few in
+      let count : length last.places.keys ≡ length now.kept.keys = ap (λ (ks : List Place). length ks) places in
+      record {
+        awake = λ i row lt below. all i row (omega arith) below;
+        quiet = record { each = λ i row lt is. let waking_same : last.waking.items ≡ first.waking.items = rw waking_is refl in quiet.each i row (omega arith) (subst (λ (spans : List Span). IsAwake spans i row) waking_same is) };
       }
 
   -- and each tile that is left has a live cell

@@ -35,6 +35,9 @@ pub record KeepsTile (before after : TileMap) (index : ℕ) : Type 0 where
 pub record Keeps (before after : TileMap) (index : ℕ) : Type 0 where
   pub places : after.places ≡ before.places
   pub next : after.next ≡ before.next
+  pub beside : after.beside ≡ before.beside
+  pub awake : after.awake ≡ before.awake
+  pub waking : after.waking ≡ before.waking
   pub room : after.room ≡ before.room
   pub spare : after.room ≤ length after.kept.keys + spare after.kept
   pub distinct : IsDistinct same_place before.kept.keys → IsDistinct same_place after.kept.keys

@@ -25,7 +25,7 @@ pub(crate) fn bounds_of(tiles: &TileMap) -> Option<Bounds>
     found
 }
 
-// The box with the live cells of a tile too, whose words begin at this index.
+/// The box with the live cells of a tile too, whose words begin at this index.
 fn with_tile(found: Option<Bounds>, place: Place, rows: &[u64], first: usize) -> Option<Bounds>
     requires near { IsWithin (2 ^ 56) place }
     requires room { first + 64 ≤ length rows.now }
@@ -38,7 +38,7 @@ fn with_tile(found: Option<Bounds>, place: Place, rows: &[u64], first: usize) ->
     more
 }
 
-// The box with the live cells of a word too, which lies so far down in its tile.
+/// The box with the live cells of a word too, which lies so far down in its tile.
 fn with_word(found: Option<Bounds>, place: Place, down: usize, word: u64) -> Option<Bounds>
     requires near { IsWithin (2 ^ 56) place }
     requires down { down < 64 }
@@ -54,7 +54,7 @@ fn with_word(found: Option<Bounds>, place: Place, down: usize, word: u64) -> Opt
     }
 }
 
-// The least box about the live cells of a word that has some.
+/// The least box about the live cells of a word that has some.
 fn row_box(place: Place, down: usize, word: u64) -> Bounds
     requires near { IsWithin (2 ^ 56) place }
     requires down { down < 64 }

@@ -4,7 +4,7 @@ ghost use Rattle.std.specs.Prelude.{◌≡◌};
 ghost use Rattle.life_tiles.specs.Tiled.{tile_count};
 ghost use Rattle.life_tiles.specs.Tiling.{IsTiled, set_of};
 
-use crate::growing::any_of;
+use crate::reading::any_of;
 use crate::tile_map::{SIDE, TileMap};
 
 /// How many tiles have live cells.
@@ -15,7 +15,7 @@ pub(crate) fn live_count(tiles: &TileMap) -> usize
     let mut live = 0;
     let count = tiles.places.len();
     'tiles: for index in 0..count {
-        if any_of(&tiles.rows, SIDE * index) != 0 {
+        if any_of(&tiles.rows, SIDE * index, SIDE * index + SIDE) != 0 {
             live += 1;
         }
     }

@@ -4,7 +4,8 @@ ghost use Rattle.std.specs.Prelude.{◌≡◌, ◌∷◌, [], ◌^◌, IfOk, OnO
 ghost use Rattle.life_cells.specs.Boxes.{IsCellInRange, IsInRange};
 ghost use Rattle.life_cells.specs.Listed.{listed};
 ghost use Rattle.life_plane.specs.Plane.{union};
-ghost use Rattle.life_tiles.specs.Tiling.{IsTiled, IsRested, IsRecent, cells_of};
+ghost use Rattle.life_tiles.specs.Tiling.{IsTiled, cells_of};
+ghost use Rattle.life_tiles.specs.Stepping.{IsSettled, IsFresh};
 
 use crate::place::{Place, down_in_tile, right_in_tile};
 use crate::tile_map::{SIDE, TileMap};
@@ -16,8 +17,8 @@ pub(crate) fn add_cell(tiles: &mut TileMap, cell: Cell) -> Result<(), NoMemory>
     requires tiled { IsTiled tiles.old }
     requires range { IsCellInRange (2 ^ 61) cell }
     ensures tiled { IsTiled tiles.new }
-    ensures calm { tiles.new.calm ≡ tiles.old.calm }
     ensures recent { tiles.new.recent ≡ tiles.old.recent }
+    ensures fresh { IsFresh tiles.old → IsFresh tiles.new }
     ensures added { OnOk result (cells_of tiles.new ≡ union (cells_of tiles.old) (listed (cell ∷ []))) }
 {
     let index = tiles.make(Place::of(cell), true)?;
@@ -30,11 +31,10 @@ pub(crate) fn add_cell(tiles: &mut TileMap, cell: Cell) -> Result<(), NoMemory>
 pub(crate) fn tiles_with(alloc: Global, cells: &[Cell]) -> Result<TileMap, NoMemory>
     requires { IsInRange (2 ^ 61) (listed cells.now) }
     ensures tiled { IfOk result IsTiled }
-    ensures rested { IfOk result IsRested }
-    ensures recent { IfOk result IsRecent }
+    ensures settled { IfOk result IsSettled }
     ensures cells { IfOk result (λ tiles. cells_of tiles ≡ listed cells.now) }
 {
-    let mut tiles = TileMap::new(alloc);
+    let mut tiles = TileMap::new(alloc)?;
     for cell in cells {
         add_cell(&mut tiles, *cell)?;
     }

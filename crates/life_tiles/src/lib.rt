@@ -2,19 +2,22 @@
 #![tactic(auto)]
 
 mod advancing;
-mod beside;
 mod bounding;
+mod changing;
 mod counting;
 mod filling;
 mod growing;
+mod linking;
 pub mod place;
 mod pruning;
 mod reading;
+mod span;
 mod stepping;
 pub mod still;
 #[cfg(test)]
 mod tests;
 mod tile_map;
+mod tile_step;
 pub mod tiles;
 mod waking;
 

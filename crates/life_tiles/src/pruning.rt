@@ -1,11 +1,14 @@
 //! Tiles with no live cell are given back.
 
-ghost use Rattle.std.specs.Prelude.{◌≡◌, ◌⊎◌, ℕ, ◌+◌, ◌*◌, ◌<◌, ◌≤◌, [], false, slice_index, length};
-ghost use Rattle.life_tiles.specs.Tiling.{IsTiled, IsLiveTile, words_of};
+ghost use Rattle.std.specs.Prelude.{◌≡◌, ◌⊎◌, ℕ, ◌+◌, ◌*◌, ◌<◌, ◌≤◌, false, slice_index, length};
+ghost use Rattle.life_tiles.specs.Tiling.{IsTiled, IsLiveTile, IsQuiet, words_of};
+ghost use Rattle.life_tiles.specs.Stepping.{IsFresh};
 ghost use Rattle.life_tiles.specs.Pruning.{EachLives, IsKeeping, Keeps};
 
-use crate::growing::any_of;
+use crate::linking::link_all;
+use crate::reading::any_of;
 use crate::tile_map::{SIDE, TileMap};
+use crate::waking::wake_all;
 use std::mem::swap;
 
 /// Gives back the tiles with no live cell, and forgets what was a generation ago. No cell changes.
@@ -16,7 +19,7 @@ pub(crate) fn prune(tiles: &mut TileMap)
     ensures lives { EachLives tiles.new }
     ensures room { tiles.new.room ≡ tiles.old.room }
     ensures recent { tiles.new.recent ≡ false }
-    ensures calm { tiles.new.calm.items ≡ [] }
+    ensures fresh { IsQuiet tiles.old → IsFresh tiles.new }
 {
     let count = tiles.places.len();
     'tiles: for index in 0..count {
@@ -27,22 +30,23 @@ pub(crate) fn prune(tiles: &mut TileMap)
     clear_words(&mut tiles.next, SIDE * kept, SIDE * count);
     swap(&mut tiles.places, &mut tiles.kept);
     tiles.kept.clear();
-    tiles.calm.clear();
+    link_all(&tiles.places, &mut tiles.beside);
+    wake_all(&mut tiles.awake, kept);
     tiles.recent = false;
 }
 
-// Puts the tile at this index behind those that are kept, if it has a live cell.
+/// Puts the tile at this index behind those that are kept, if it has a live cell.
 fn keep_if_live(tiles: &mut TileMap, index: usize)
     requires keeping { IsKeeping tiles.old index }
     requires within { index < length tiles.old.places.keys }
     ensures { Keeps tiles.old tiles.new index }
 {
-    if any_of(&tiles.rows, SIDE * index) != 0 {
+    if any_of(&tiles.rows, SIDE * index, SIDE * index + SIDE) != 0 {
         keep(tiles, index);
     }
 }
 
-// Puts the tile at this index, which has a live cell, behind those that are kept.
+/// Puts the tile at this index, which has a live cell, behind those that are kept.
 fn keep(tiles: &mut TileMap, index: usize)
     requires keeping { IsKeeping tiles.old index }
     requires within { index < length tiles.old.places.keys }
@@ -55,7 +59,7 @@ fn keep(tiles: &mut TileMap, index: usize)
     move_words(&mut tiles.rows, SIDE * index, SIDE * to);
 }
 
-// Copies 64 words to their place or an earlier one.
+/// Copies 64 words to their place or an earlier one.
 fn move_words(words: &mut [u64], from: usize, to: usize)
     requires room { from + 64 ≤ length words.old }
     requires apart { (to ≡ from) ⊎ (to + 64 ≤ from) }
@@ -67,7 +71,7 @@ fn move_words(words: &mut [u64], from: usize, to: usize)
     }
 }
 
-// Makes the words from one index up to another 0.
+/// Makes the words from one index up to another 0.
 fn clear_words(words: &mut [u64], from: usize, to: usize)
     requires order { from ≤ to }
     requires room { to ≤ length words.old }

@@ -1,9 +1,10 @@
 //! The live cells of tiles, and the least box about them.
 
-ghost use Rattle.std.specs.Prelude.{◌≡◌, ◌++◌, ◌∷◌, [], cond, ◌+◌, ◌*◌, ◌<◌, ◌≤◌, ◌^◌, pos, ◌+ℤ◌, ◌*ℤ◌, length, IfOk, OnOk};
+ghost use Rattle.std.specs.Prelude.{◌≡◌, ◌++◌, ◌∷◌, [], true, cond, ℕ, ◌+◌, ◌*◌, ◌<◌, ◌≤◌, ◌^◌, pos, ◌+ℤ◌, ◌*ℤ◌, slice_index, length, IfOk, OnOk};
 ghost use Rattle.life_cells.specs.Boxes.{IsLeastBox, IsBoxOf};
 ghost use Rattle.life_cells.specs.Cells.{cell};
 ghost use Rattle.life_cells.specs.Listed.{listed};
+ghost use Rattle.life_kernel.specs.Rows.{test};
 ghost use Rattle.life_plane.specs.Plane.{Plane, union};
 ghost use Rattle.life_tiles.specs.Tiling.{IsWithin, IsTiled, cells_of, word_cells, tile_cells, list_cells};
 
@@ -26,7 +27,7 @@ pub(crate) fn live_cells(alloc: Global, tiles: &TileMap) -> Result<Vec<Cell>, No
     Ok(cells)
 }
 
-// Appends the live cells of a tile, whose words begin at this index.
+/// Appends the live cells of a tile, whose words begin at this index.
 fn push_tile(
     cells: &mut Vec<Cell>,
     place: Place,
@@ -43,7 +44,7 @@ fn push_tile(
     Ok(())
 }
 
-// Appends the live cells of a word, which lies so far down in its tile.
+/// Appends the live cells of a word, which lies so far down in its tile.
 fn push_word(cells: &mut Vec<Cell>, place: Place, down: usize, word: u64) -> Result<(), NoMemory>
     requires near { IsWithin (2 ^ 56) place }
     requires down { down < 64 }
@@ -60,7 +61,7 @@ fn push_word(cells: &mut Vec<Cell>, place: Place, down: usize, word: u64) -> Res
     Ok(())
 }
 
-// Appends a cell, if it lives.
+/// Appends a cell, if it lives.
 fn push_if(cells: &mut Vec<Cell>, cell: Cell, lives: bool) -> Result<(), NoMemory>
     ensures { OnOk result (cells.new.items ≡ cells.old.items ++ cond lives (cell ∷ []) []) }
 {
@@ -81,4 +82,17 @@ pub(crate) fn cell_at(place: Place, right: usize, down: usize) -> Cell
         64 * place.column + right as i64,
         64 * place.row + down as i64,
     )
+}
+
+/// The columns in which a word has a live cell, from this one up to another.
+pub(crate) fn any_of(words: &[u64], from: usize, to: usize) -> u64
+    requires { to ≤ length words.now }
+    ensures all { (j k : ℕ) → from ≤ j → j < to → test (slice_index words.now j) k ≡ true → test result k ≡ true }
+    ensures some { (k : ℕ) → test result k ≡ true → (j : ℕ) × (from ≤ j) × (j < to) × (test (slice_index words.now j) k ≡ true) }
+{
+    let mut any = 0;
+    for at in from..to {
+        any |= words[at];
+    }
+    any
 }

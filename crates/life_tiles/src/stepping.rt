@@ -1,149 +1,87 @@
 //! The next generation of each tile.
 
-ghost use Rattle.std.specs.Prelude.{◌≡◌, ◌⊎◌, true, false, [], ℕ, ℤ, ◌+◌, ◌*◌, ◌<◌, ◌≤◌, ◌^◌, pos, ◌+ℤ◌, ◌*ℤ◌, slice_index, length};
-ghost use Rattle.life_kernel.specs.Words.{IsNextWord};
-ghost use Rattle.life_tiles.specs.Tiling.{IsWithin, IsTiled, IsRested, IsRestedAt, IsMarked, IsStepped, FillsTile, words_of, row_in};
+ghost use Rattle.std.specs.Prelude.{◌≡◌, ◌*◌, ◌<◌, ◌≤◌, ℕ, ℤ, length};
+ghost use Rattle.life_plane.specs.Plane.{step};
+ghost use Rattle.life_tiles.specs.Tiling.{IsTiled, cells_in};
+ghost use Rattle.life_tiles.specs.Stepping.{IsSettled, IsAsleep, IsGrid, FillsTile, FillsAll};
 
+use crate::changing::change_of;
+use crate::linking::about;
 use crate::place::Place;
+use crate::span::Span;
 use crate::tile_map::{SIDE, TileMap};
-use crate::waking::wake_if;
-use life_kernel::{Row, next_word};
+use crate::tile_step::fill_rows;
+use crate::waking::wake_about;
+use indexmap::IndexSet;
 
-// The words of a tile, with the lowest one of the tile above before them and the highest one of the tile below behind them.
-type Strip = [u64; 66];
-
-/// Writes the next generation of each tile into `next`, and marks in `waking` the tiles that become what they were.
+/// Writes the next generation of each tile into `next`, and marks in `waking` the rows that may become other than they are now.
 pub(crate) fn fill_next(tiles: &mut TileMap)
     requires tiled { IsTiled tiles.old }
-    requires rested { IsRested tiles.old }
+    requires settled { IsSettled tiles.old }
     ensures tiled { IsTiled tiles.new }
     ensures places { tiles.new.places ≡ tiles.old.places }
     ensures rows { tiles.new.rows ≡ tiles.old.rows }
     ensures recent { tiles.new.recent ≡ tiles.old.recent }
     ensures room { tiles.new.room ≡ tiles.old.room }
-    ensures stepped { IsStepped tiles.new }
-    ensures marked { IsMarked tiles.new.places.keys tiles.old.next.items tiles.new.next.items tiles.new.waking.items }
-    ensures unmarked { tiles.old.recent ≡ false → tiles.new.waking.items ≡ [] }
+    ensures fills { FillsAll tiles.old.places.keys tiles.old.rows.items tiles.old.next.items tiles.new.next.items tiles.old.awake.items tiles.new.awake.items tiles.old.waking.items tiles.new.waking.items }
 {
-    let count = tiles.places.len();
-    mark_all(&mut tiles.waking, count, tiles.recent);
+    fill_all(
+        &tiles.places,
+        &tiles.rows,
+        &tiles.beside,
+        &mut tiles.next,
+        &mut tiles.awake,
+        &mut tiles.waking,
+    );
+}
+
+/// The same for the parts of the tiles.
+fn fill_all(
+    places: &IndexSet<Place>,
+    rows: &[u64],
+    beside: &[usize],
+    next: &mut [u64],
+    awake: &mut [Span],
+    waking: &mut [Span],
+)
+    requires grid { IsGrid places.now.keys rows.now beside.now }
+    requires next { 64 * length places.now.keys ≤ length next.old }
+    requires awake { length places.now.keys ≤ length awake.old }
+    requires waking { length places.now.keys ≤ length waking.old }
+    requires rested { (i : ℕ) (x y : ℤ) → IsAsleep places.now.keys awake.old i x y → cells_in places.now.keys next.old x y ≡ step (cells_in places.now.keys rows.now) x y }
+    ensures { FillsAll places.now.keys rows.now next.old next.new awake.old awake.new waking.old waking.new }
+{
+    let count = places.len();
     'tiles: for index in 0..count {
-        fill_tile(tiles, index);
+        fill_tile(places, rows, beside, next, awake, waking, index);
     }
 }
 
-// Marks so many tiles; none, where they have no past, or there is no memory for the marks.
-fn mark_all(marks: &mut Vec<bool>, count: usize, recent: bool)
-    ensures few { length marks.new.items ≤ count }
-    ensures none { recent ≡ false → marks.new.items ≡ [] }
+/// The same for one tile. Rows that are not awake have their next generation already.
+fn fill_tile(
+    places: &IndexSet<Place>,
+    rows: &[u64],
+    beside: &[usize],
+    next: &mut [u64],
+    awake: &mut [Span],
+    waking: &mut [Span],
+    index: usize,
+)
+    requires grid { IsGrid places.now.keys rows.now beside.now }
+    requires within { index < length places.now.keys }
+    requires next { 64 * length places.now.keys ≤ length next.old }
+    requires awake { length places.now.keys ≤ length awake.old }
+    requires waking { length places.now.keys ≤ length waking.old }
+    requires rested { (x y : ℤ) → IsAsleep places.now.keys awake.old index x y → cells_in places.now.keys next.old x y ≡ step (cells_in places.now.keys rows.now) x y }
+    ensures { FillsTile places.now.keys rows.now next.old next.new awake.old awake.new waking.old waking.new index }
 {
-    marks.clear();
-    if recent {
-        let _ = marks.resize(count, true);
+    let span = awake[index];
+    awake[index] = Span::NONE;
+    if span.is_empty() {
+        return;
     }
-}
-
-// Writes the next generation of one tile. One that is marked has it already.
-fn fill_tile(tiles: &mut TileMap, index: usize)
-    requires tiled { IsTiled tiles.old }
-    requires rested { IsRestedAt tiles.old index }
-    requires within { index < length tiles.old.places.keys }
-    ensures { FillsTile tiles.old tiles.new index }
-{
-    if !tiles.is_calm(index) {
-        make_tile(tiles, index);
-    }
-}
-
-// The same by the rule. Where the tile does not become what it was, it and those beside it are awake.
-fn make_tile(tiles: &mut TileMap, index: usize)
-    requires tiled { IsTiled tiles.old }
-    requires within { index < length tiles.old.places.keys }
-    ensures { FillsTile tiles.old tiles.new index }
-{
-    let place = tiles.places.as_slice()[index];
-    let west = strip(tiles, place.west());
-    let here = strip(tiles, place);
-    let east = strip(tiles, place.east());
-    let moved = step_tile(&west, &here, &east, &mut tiles.next, SIDE * index);
-    wake_if(&tiles.places, &mut tiles.waking, place, moved);
-}
-
-// The words of the tile at this place, and those above and below; 0 where there is no tile.
-#[inline(always)]
-fn strip(tiles: &TileMap, place: Place) -> Strip
-    requires tiled { IsTiled tiles.now }
-    requires near { IsWithin (2 ^ 60) place }
-    ensures { (j : ℕ) (y : ℤ) → j < 66 → y +ℤ pos 1 ≡ pos 64 *ℤ place.row +ℤ pos j → slice_index result j ≡ words_of tiles.now place.column y }
-{
-    let mut words = tile_words(tiles, place);
-    words[0] = tiles.word(place.above(), 63);
-    words[65] = tiles.word(place.below(), 0);
-    words
-}
-
-// The words of the tile at this place, from index 1 on; 0 where there is no tile.
-#[inline(always)]
-fn tile_words(tiles: &TileMap, place: Place) -> Strip
-    requires { IsTiled tiles.now }
-    ensures { (down : ℕ) → down < 64 → slice_index result (down + 1) ≡ words_of tiles.now place.column (pos 64 *ℤ place.row +ℤ pos down) }
-{
-    match tiles.find(place) {
-        Some(index) => copied(&tiles.rows, SIDE * index),
-        None => no_words(),
-    }
-}
-
-// The words of no tile.
-#[inline(always)]
-fn no_words() -> Strip
-    ensures { (j : ℕ) → slice_index result j ≡ 0 }
-{
-    [0; 66]
-}
-
-// The words from this one on, from index 1 on.
-#[inline(always)]
-fn copied(rows: &[u64], first: usize) -> Strip
-    requires { first + 64 ≤ length rows.now }
-    ensures { (down : ℕ) → down < 64 → slice_index result (down + 1) ≡ slice_index rows.now (first + down) }
-{
-    let mut words = [0; 66];
-    for down in 0..SIDE {
-        words[down + 1] = rows[first + down];
-    }
-    words
-}
-
-// Writes the next generation of a tile, of whose column and both beside it the words are given. The answer is whether other words
-// stood there.
-fn step_tile(west: &Strip, here: &Strip, east: &Strip, next: &mut [u64], first: usize) -> bool
-    requires { first + 64 ≤ length next.old }
-    ensures inside { (down : ℕ) → down < 64 → IsNextWord (row_in west.now here.now east.now down) (row_in west.now here.now east.now (down + 1)) (row_in west.now here.now east.now (down + 2)) (slice_index next.new (first + down)) }
-    ensures same { result ≡ false → (down : ℕ) → down < 64 → slice_index next.new (first + down) ≡ slice_index next.old (first + down) }
-    ensures outside { (j : ℕ) → (j < first) ⊎ (first + 64 ≤ j) → slice_index next.new j ≡ slice_index next.old j }
-{
-    let mut moved = false;
-    for down in 0..SIDE {
-        let above = row(west, here, east, down);
-        let own = row(west, here, east, down + 1);
-        let below = row(west, here, east, down + 2);
-        let word = next_word(above, own, below);
-        moved |= next[first + down] != word;
-        next[first + down] = word;
-    }
-    moved
-}
-
-// The words of three strips at one height.
-#[inline(always)]
-fn row(west: &Strip, here: &Strip, east: &Strip, at: usize) -> Row
-    requires { at < 66 }
-    ensures { result ≡ row_in west.now here.now east.now at }
-{
-    Row {
-        west: west[at],
-        here: here[at],
-        east: east[at],
-    }
+    let about = about(beside, index, places.len());
+    let mut changes = [0; SIDE];
+    fill_rows(rows, next, &mut changes, &about, span);
+    wake_about(waking, &about, change_of(&changes, span));
 }

@@ -13,7 +13,7 @@ use std::process::Abort;
 use std::sync::ledger::{Blank, Ledger};
 use std::test::Fail;
 
-// Whether one step changes a pattern, and its cells and box behind it.
+/// Whether one step changes a pattern, and its cells and box behind it.
 #[derive(Debug, Drop)]
 struct Stepped {
     changed: bool,
@@ -37,7 +37,7 @@ fn step_once<L: Ledger>(alloc: Global, cells: &CellSet, blank: Blank) -> Result<
     })
 }
 
-// The first cell of a pattern that changes.
+/// The first cell of a pattern that changes.
 fn change_of<L: Ledger>(
     alloc: Global,
     cells: &CellSet,
@@ -52,7 +52,7 @@ fn change_of<L: Ledger>(
     first_change(alloc, cells, &mut steps)
 }
 
-// These cells, none of them far out.
+/// These cells, none of them far out.
 fn cells_at(rt: &impl Abort, alloc: Global, places: &[(i64, i64)]) -> Result<CellSet, NoMemory>
     ensures { IfOk result (λ s. IsInRange (2 ^ 61) (alive s)) }
 {

@@ -30,7 +30,8 @@ pub struct Tiles {
 
 impl Model for Tiles {
     ghost use Rattle.life_tiles.specs.Tiled.{TiledCells, coded_tiled_cells};
-    ghost use Rattle.life_tiles.specs.Tiling.{set_of, IsTiled, IsRested, IsRecent};
+    ghost use Rattle.life_tiles.specs.Tiling.{set_of, IsTiled};
+    ghost use Rattle.life_tiles.specs.Stepping.{IsSettled};
 
     ghost Value = { TiledCells };
 
@@ -38,7 +39,7 @@ impl Model for Tiles {
 
     ghost view = { λ t. record { cells = set_of t.tiles; spare = t.tiles.room } };
 
-    ghost invariant = { λ t. IsTiled t.tiles × IsRested t.tiles × IsRecent t.tiles };
+    ghost invariant = { λ t. IsTiled t.tiles × IsSettled t.tiles };
 }
 
 impl Tiles {

@@ -1,59 +1,69 @@
-//! Marks are taken from tiles that may change.
+//! Rows that may change in the step after, since something changed beside them.
 
-ghost use Rattle.std.specs.Prelude.{◌≡◌, ℕ, ◌^◌, pos, ◌+ℤ◌, ◌≤ℤ◌, true, false, IsTrue, Some, slice_get};
-ghost use Rattle.std.specs.List.{IsDistinct};
-ghost use Rattle.std.proofs.Common.{get_or};
-ghost use Rattle.life_tiles.specs.declared.place.Place.{Place};
-ghost use Rattle.life_tiles.specs.Tiling.{same_place, IsWithin, OnlyWakes, Beside};
+ghost use Rattle.std.specs.Prelude.{◌≡◌, ◌≢◌, ℕ, ◌<◌, ◌≤◌, IsTrue, length};
+ghost use Rattle.life_tiles.specs.Spans.{InSpan, IsAwake, OnlyWakes, WakesRow, WakesAbout};
 
-use crate::place::Place;
-use indexmap::IndexSet;
+use crate::changing::Change;
+use crate::span::Span;
 
-/// Takes the marks from the tile at this place and those beside it, if one of its words changes.
-pub(crate) fn wake_if(places: &IndexSet<Place>, calm: &mut Vec<bool>, place: Place, changes: bool)
-    requires { IsWithin (2 ^ 56) place }
-    ensures wakes { OnlyWakes calm.old.items calm.new.items }
-    ensures awake { IsTrue changes → (i : ℕ) (p : Place) → slice_get places.now.keys i ≡ Some p → Beside p place → get_or calm.new.items i false ≡ false }
+/// Wakes the rows in and beside which something changes. The tile and those about it are given by their indices.
+pub(crate) fn wake_about(waking: &mut [Span], about: &[usize; 9], change: Change)
+    ensures { WakesAbout waking.old waking.new about.now change.rows change.columns }
 {
-    if changes {
-        wake_about(places, calm, place);
-    }
+    wake_row(
+        waking,
+        about[0],
+        about[1],
+        about[2],
+        change.rows.above(),
+        change.columns,
+    );
+    wake_row(
+        waking,
+        about[3],
+        about[4],
+        about[5],
+        change.rows.around(),
+        change.columns,
+    );
+    wake_row(
+        waking,
+        about[6],
+        about[7],
+        about[8],
+        change.rows.below(),
+        change.columns,
+    );
 }
 
-// Takes the marks from the tile at this place and those beside it.
-fn wake_about(places: &IndexSet<Place>, calm: &mut Vec<bool>, place: Place)
-    requires { IsWithin (2 ^ 56) place }
-    ensures wakes { OnlyWakes calm.old.items calm.new.items }
-    ensures awake { (i : ℕ) (p : Place) → slice_get places.now.keys i ≡ Some p → Beside p place → get_or calm.new.items i false ≡ false }
+/// Wakes rows of three tiles side by side: those to the west and to the east where the change reaches their border.
+fn wake_row(waking: &mut [Span], west: usize, here: usize, east: usize, rows: Span, columns: u64)
+    ensures { WakesRow waking.old waking.new west here east rows columns }
 {
-    wake_row(places, calm, place.above());
-    wake_row(places, calm, place);
-    wake_row(places, calm, place.below());
-}
-
-// Takes the marks from the tile at this place and those west and east of it.
-fn wake_row(places: &IndexSet<Place>, calm: &mut Vec<bool>, place: Place)
-    requires { IsWithin (2 ^ 57) place }
-    ensures wakes { OnlyWakes calm.old.items calm.new.items }
-    ensures awake { (i : ℕ) (p : Place) → slice_get places.now.keys i ≡ Some p → p.row ≡ place.row → place.column ≤ℤ (p.column +ℤ pos 1) → p.column ≤ℤ (place.column +ℤ pos 1)
-        → get_or calm.new.items i false ≡ false }
-{
-    wake(places, calm, place.west());
-    wake(places, calm, place);
-    wake(places, calm, place.east());
-}
-
-// Takes the mark from the tile at this place.
-fn wake(places: &IndexSet<Place>, calm: &mut Vec<bool>, place: Place)
-    ensures wakes { OnlyWakes calm.old.items calm.new.items }
-    ensures awake { (i : ℕ) → slice_get places.now.keys i ≡ Some place → get_or calm.new.items i false ≡ false }
-{
-    let count = places.len();
-    let Some(index) = places.get_index_of(&place) else {
+    if rows.is_empty() {
         return;
-    };
-    if index < calm.len() {
-        calm[index] = false;
     }
-    let _ = count;
+    wake_if(waking, west, rows, columns & 1 != 0);
+    wake_if(waking, here, rows, true);
+    wake_if(waking, east, rows, columns >> 63 != 0);
+}
+
+/// Wakes rows of the tile at this index, where they change and there is one.
+fn wake_if(waking: &mut [Span], index: usize, rows: Span, changes: bool)
+    ensures wakes { OnlyWakes waking.old waking.new }
+    ensures awake { IsTrue changes → index < length waking.old → (row : ℕ) → InSpan rows row → IsAwake waking.new index row }
+{
+    if changes && index < waking.len() {
+        waking[index] = waking[index].joined(rows);
+    }
+}
+
+/// Wakes all rows of the tiles before this index.
+pub(crate) fn wake_all(spans: &mut [Span], count: usize)
+    requires { count ≤ length spans.old }
+    ensures { (i row : ℕ) → i < count → row < 64 → IsAwake spans.new i row }
+{
+    for index in 0..count {
+        spans[index] = Span::ALL;
+    }
 }

@@ -15,7 +15,7 @@ use Rattle.recipe_hit.specs.declared.hit.Hit.{Hit}
 use Rattle.recipe_hit.specs.Strike.{first_quarter, hit_start, IsHit, beyond}
 use Rattle.recipe_hit.specs.Sound.{AreHits, what_is_left}
 use Rattle.recipe_hit.specs.Checked.{IsSmall, IsSmallFrame, AreSmallFrames}
-use Rattle.life_tiles.specs.BoxRangeLaws.{box_in_range, range_of_box}
+use Rattle.life_cells.specs.BoxRangeLaws.{box_in_range, range_of_box}
 use Rattle.recipe_hit.specs.SceneHitLaws.{in_ever}
 use Rattle.book_parts.specs.declared.limits.TheConstants.{MOST_LANES}
 

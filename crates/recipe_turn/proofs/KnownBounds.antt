@@ -8,7 +8,7 @@ use Rattle.life_cells.specs.declared.cell.Cell.{Cell}
 use Rattle.life_cells.specs.Boxes.{IsInRange, InBox, IsLeastBox}
 use Rattle.life_cells.specs.Cells.{Cells, alive, empty}
 use Rattle.life_cells.specs.Laws.{alive-empty}
-use Rattle.life_tiles.specs.BoxRangeLaws.{box_in_range}
+use Rattle.life_cells.specs.BoxRangeLaws.{box_in_range}
 use Rattle.book_parts.specs.declared.settings.Settings.{Settings}
 use Rattle.recipe_turn.specs.Range.{IsWithinReach}
 use Rattle.recipe_turn.specs.Turn.{IsInReach, IsAheadOrOwn}

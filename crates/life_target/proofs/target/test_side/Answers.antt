@@ -1,7 +1,7 @@
 use Rattle.std.proofs.Common.{arith}
 use Rattle.std.proofs.lemmas.Int.{ints}
 use Rattle.life_cells.specs.Cells.{alive}
-use Rattle.life_tiles.specs.BoxRangeLaws.{box_in_range}
+use Rattle.life_cells.specs.BoxRangeLaws.{box_in_range}
 use Rattle.life_target.proofs.NoCells.{empty_is_narrow}
 use Rattle.life_target.proofs.target.test_side.Goals as goal
 

@@ -11,7 +11,7 @@ use Rattle.life_tiles.proofs.bounding.bounds_of.Goals as goal
 pub with_tile-found-requires-clause-near : goal.with_tile-found-requires-clause-near
 with_tile-found-requires-clause-near c =
     let within : c.tiles.index < length c.args.tiles.now.places.keys = omega (arith, c.len-count.ensures.len) in
-    c.requires.near c.tiles.index _ (item_of c.as_slice.result.now _ c.tiles.index _ c.as_slice.ensures.keys within)
+    c.requires.near.each c.tiles.index _ (item_of c.as_slice.result.now _ c.tiles.index _ c.as_slice.ensures.keys within)
 
 pub tiles-init : goal.tiles-init
 tiles-init c = ap listed (list_none _ _)

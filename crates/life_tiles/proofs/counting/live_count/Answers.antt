@@ -1,9 +1,8 @@
-use Rattle.std.proofs.Common.{◌≡◌, ◌+◌, ◌*◌, ◌<◌, take, length, slice_index, Fits, w64, sym, ap, ◌∙◌, arith, rules}
+use Rattle.std.proofs.Common.{◌≡◌, ◌+◌, ◌<◌, take, length, Fits, w64, sym, ap, ◌∙◌, arith, rules}
 use Rattle.std.proofs.Math.Seq.{take-length}
 use Rattle.std.proofs.lemmas.List.Sums.{count_by_more_no, count_by_more_yes}
 use Rattle.std.proofs.lemmas.Option.{slice_get-get_or}
 use Rattle.std.specs.List.{count_by}
-use Rattle.life_kernel.specs.Rows.{test}
 use Rattle.life_tiles.specs.Tiling.{set_of}
 use Rattle.life_tiles.proofs.Counted.{is_live, there_lives, tile_lives, empty_is_dead, live_places}
 use Rattle.life_tiles.proofs.Pruned.{none, empty_tile, live_tile}
@@ -22,15 +21,13 @@ tiles-preserved c =
           let is = w.live-is in
           let other = w.if-any_of-ne0.true in
           let fits : Fits w64 c.any_of.result = search rules in
-          let lives = live_tile c.args.tiles.now.rows.items c.tiles.index c.any_of.result (omega arith) fits.fits
-          (λ k h. let found = c.any_of.ensures.some k h in (found.0, found.1, ap (λ xs. test (slice_index xs (64 * c.tiles.index + found.0)) k) (sym c.deref.ensures.value) ∙ found.2)) in
+          let lives = live_tile _ _ c.tiles.index c.any_of.result c.deref.ensures.value other fits.fits c.any_of.ensures.some in
           let yes = there_lives (set_of c.args.tiles.now) _ (tile_lives c.args.tiles.now c.requires c.tiles.index _ at lives) in
           let more = count_by_more_yes (is_live (set_of c.args.tiles.now)) c.args.tiles.now.places.keys c.tiles.index none within yes in
           record { live = is ∙ ap (λ n. n + 1) c.tiles.invariant.live ∙ sym more; few = omega arith }
       | else-any_of-ne0 w ↦
           let is = w.live-is in
-          let empty = empty_tile c.args.tiles.now.rows.items c.tiles.index c.any_of.result w.if-any_of-ne0.false
-          (λ down k h live. c.any_of.ensures.all down k h (ap (λ xs. test (slice_index xs (64 * c.tiles.index + down)) k) c.deref.ensures.value ∙ live)) in
+          let empty = empty_tile _ _ c.tiles.index c.any_of.result c.deref.ensures.value w.if-any_of-ne0.false c.any_of.ensures.all in
           let no = empty_is_dead c.args.tiles.now c.requires c.tiles.index _ at empty in
           let same = count_by_more_no (is_live (set_of c.args.tiles.now)) c.args.tiles.now.places.keys c.tiles.index none within no in
           record { live = is ∙ c.tiles.invariant.live ∙ sym same; few = omega arith }

@@ -6,6 +6,7 @@ use Rattle.life_kernel.specs.Words.{plane_of_words}
 use Rattle.life_kernel.specs.WordLaws.{offset_below}
 use Rattle.life_plane.specs.Plane.{union}
 use Rattle.life_tiles.proofs.Added.{tile_near, set_cell_at, set_long_at}
+use Rattle.life_tiles.proofs.Settled.{fresh_kept}
 use Rattle.life_tiles.proofs.Tiling.{rows_room, rows_small}
 use Rattle.life_tiles.proofs.filling.add_cell.Goals as goal
 
@@ -41,7 +42,17 @@ returns-clause-tiled c =
       rows = set_long_at _ _ c.in_ok-index.index c.args.cell tiled.distinct at tiled.rows _ _ c.down_in_tile.ensures;
       next = tiled.next;
       near = tiled.near;
-      room = record { few = tiled.room.few; places = tiled.room.places; kept = tiled.room.kept; rows = (let room = tiled.room.rows in omega (arith, length-set {A = ℕ})); next = tiled.room.next };
+      links = tiled.links;
+      room = record {
+        few = tiled.room.few;
+        places = tiled.room.places;
+        kept = tiled.room.kept;
+        rows = (let room = tiled.room.rows in omega (arith, length-set {A = ℕ}));
+        next = tiled.room.next;
+        beside = tiled.room.beside;
+        awake = tiled.room.awake;
+        waking = tiled.room.waking;
+      };
       none = tiled.none;
     }
 
@@ -56,3 +67,9 @@ returns-clause-added c =
     set_cell_at _ c.make.new.self.rows.items c.in_ok-index.index c.args.cell tiled.distinct at tiled.rows _ _ _ c.down_in_tile.ensures c.right_in_tile.ensures
     (c.index_mut.ensures.value ∙ get_or_default _ _ _ 0 within)
     ∙ ap (λ w. union (plane_of_words w) (listed (c.args.cell ∷ []))) c.make.ensures.makes.words
+
+pub returns-in_err-index-clause-fresh : goal.returns-in_err-index-clause-fresh
+returns-in_err-index-clause-fresh c fresh = fresh_kept _ _ c.make.ensures.makes fresh
+
+pub returns-clause-fresh : goal.returns-clause-fresh
+returns-clause-fresh c fresh = let made = fresh_kept _ _ c.make.ensures.makes fresh in record { awake = made.awake; quiet = record { each = made.quiet.each } }

@@ -1,9 +1,13 @@
-use Rattle.life_tiles.proofs.Grown.{has_more, some_bit, row_made}
+use Rattle.life_tiles.proofs.Bits.{some_bit}
+use Rattle.life_tiles.proofs.Grown.{has_more}
+use Rattle.life_tiles.proofs.Rooms.{makes_both}
 use Rattle.life_tiles.proofs.growing.make_row.Goals as goal
 
-pub returns-clause-about : goal.returns-clause-about
-returns-clause-about c =
-    let p = c.args.place in
-    (row_made c.make_sides.new.tiles p.column p.row c.args.word
-    (λ k live. has_more _ _ _ _ c.make_sides.ensures.makes (c.in_ok-make_if.ensures.there (some_bit c.args.word k live)))
-    c.in_ok-make_sides.ensures.west c.in_ok-make_sides.ensures.east).about
+pub returns-clause-here : goal.returns-clause-here
+returns-clause-here c k live = has_more _ _ _ _ c.make_sides.ensures.makes (c.in_ok-make_if.ensures.there (some_bit c.args.word k live))
+
+pub returns-in_err-make_sides-clause-makes : goal.returns-in_err-make_sides-clause-makes
+returns-in_err-make_sides-clause-makes c = makes_both _ _ _ c.make_if.ensures.makes c.make_sides.ensures.makes
+
+pub returns-clause-makes : goal.returns-clause-makes
+returns-clause-makes c = makes_both _ _ _ c.make_if.ensures.makes c.make_sides.ensures.makes

@@ -27,6 +27,9 @@ returns c =
     record {
       places = refl;
       next = refl;
+      beside = refl;
+      awake = refl;
+      waking = refl;
       room = refl;
       spare = omega arith;
       distinct = λ d. c.insert_full.ensures.unique;

@@ -7,7 +7,7 @@ use Rattle.life_tiles.proofs.reading.live_cells.Goals as goal
 pub push_tile-requires-clause-near : goal.push_tile-requires-clause-near
 push_tile-requires-clause-near c =
     let within : c.tiles.index < length c.args.tiles.now.places.keys = omega (arith, c.len-count.ensures.len) in
-    c.requires.near c.tiles.index _ (item_of c.as_slice.result.now _ c.tiles.index _ c.as_slice.ensures.keys within)
+    c.requires.near.each c.tiles.index _ (item_of c.as_slice.result.now _ c.tiles.index _ c.as_slice.ensures.keys within)
 
 pub tiles-init : goal.tiles-init
 tiles-init c = c.new-cells.ensures.items ∙ sym (list_none _ _)

@@ -1,19 +1,24 @@
-use Rattle.std.proofs.Common.{◌≡◌, Some, sym, ap, ◌∙◌, inl, inr}
-use Rattle.life_tiles.proofs.Calmed.{three_beside, stays_awake, wakes_both}
+use Rattle.std.proofs.Common.{refl, arith}
+use Rattle.life_tiles.proofs.Bits.{first_bit, last_bit}
+use Rattle.life_tiles.proofs.Woken.{wakes_none, wakes_both}
 use Rattle.life_tiles.proofs.waking.wake_row.Goals as goal
 
-pub returns-clause-awake : goal.returns-clause-awake
-returns-clause-awake c i p at row right left =
-    let q = c.args.place in
-    let later = wakes_both _ _ _ c.wake-2.ensures.wakes c.wake-3.ensures.wakes in
-    elim (three_beside p.column q.column right left) [
-      | inl west ↦
-          let is : p ≡ c.west.result = (λ k. record { row = row k; column = west k }) ∙ sym c.west.ensures in
-          stays_awake _ _ i later (c.wake.ensures.awake i (at ∙ ap Some is))
-      | inr (inl here) ↦
-          let is : p ≡ c.args.place = λ k. record { row = row k; column = here k } in
-          stays_awake _ _ i c.wake-3.ensures.wakes (c.wake-2.ensures.awake i (at ∙ ap Some is))
-      | inr (inr east) ↦
-          let is : p ≡ c.east.result = (λ k. record { row = row k; column = east k }) ∙ sym c.east.ensures in
-          c.wake-3.ensures.awake i (at ∙ ap Some is)
-    ]
+pub returns-then-is_empty : goal.returns-then-is_empty
+returns-then-is_empty c = record {
+  only = wakes_none c.args.waking.now;
+  awake = λ row h. let none = c.if-is_empty.ensures.0 refl in let from = h.from in let to = h.to in absurd (omega arith);
+}
+
+pub returns : goal.returns
+returns c =
+    let first = c.wake_if.ensures.wakes in
+    let second = c.wake_if-2.ensures.wakes in
+    let third = c.wake_if-3.ensures.wakes in
+    record {
+      only = wakes_both _ _ _ first (wakes_both _ _ _ second third);
+      awake = λ row h. record {
+        on_west = λ t lt. third.each c.args.west row (second.each c.args.west row (c.wake_if.ensures.awake (first_bit c.args.columns t) lt row h));
+        on_here = λ lt. third.each c.args.here row (c.wake_if-2.ensures.awake refl (let long = first.long in omega arith) row h);
+        on_east = λ t lt. c.wake_if-3.ensures.awake (last_bit c.args.columns t) (let long = first.long in let more = second.long in omega arith) row h;
+      };
+    }

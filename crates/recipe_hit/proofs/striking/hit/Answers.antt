@@ -9,7 +9,7 @@ use Rattle.recipe_hit.proofs.SetBox.{box_of_set}
 use Rattle.recipe_hit.proofs.HitStarts.{start_in_range, least_with_glider}
 use Rattle.recipe_hit.proofs.Hitting.{start_of, no_hit_without_rest, no_hit_far_off, made_hit, refused}
 use Rattle.recipe_hit.proofs.striking.hit.Goals as goal
-use Rattle.life_tiles.specs.BoxRangeLaws.{box_in_range}
+use Rattle.life_cells.specs.BoxRangeLaws.{box_in_range}
 
 pub returns-in_default-clause-refusal : goal.returns-in_default-clause-refusal
 returns-in_default-clause-refusal g c = ap alive c.in_default.ensures.none ∙ alive-empty

@@ -1,46 +1,31 @@
 use Rattle.std.proofs.Common.{◌≡◌, List, length, refl, ap, arith}
 use Rattle.life_tiles.specs.declared.place.Place.{Place}
-use Rattle.life_tiles.proofs.Rooms.{OnlyAppends, appends_none, grown, grown_so_far}
+use Rattle.life_tiles.proofs.Rooms.{keeps_items, keeps_places, grown, grown_so_far}
 use Rattle.life_tiles.proofs.tile_map.TileMap.grow.Goals as goal
 
 pub returns-in_err-lengthen-clause-makes : goal.returns-in_err-lengthen-clause-makes
 returns-in_err-lengthen-clause-makes c =
-    let rows : OnlyAppends c.args.self.now.rows.items c.lengthen.new.words.items = record { read = c.lengthen.ensures.words; longer = c.lengthen.ensures.grown } in
-    grown_so_far _ _ c.requires refl refl rows (appends_none _) refl refl (omega arith) (omega arith) refl
+    grown_so_far _ _ c.requires (keeps_places _) (keeps_places _) c.lengthen.ensures.rows c.lengthen.ensures.next (keeps_items _ _) (keeps_items _ _) (keeps_items _ _) refl refl
 
-pub returns-in_err-lengthen-2-clause-makes : goal.returns-in_err-lengthen-2-clause-makes
-returns-in_err-lengthen-2-clause-makes c =
-    let rows : OnlyAppends c.args.self.now.rows.items c.lengthen.new.words.items = record { read = c.lengthen.ensures.words; longer = c.lengthen.ensures.grown } in
-    let next : OnlyAppends c.args.self.now.next.items c.lengthen-2.new.words.items = record { read = c.lengthen-2.ensures.words; longer = c.lengthen-2.ensures.grown } in
-    grown_so_far _ _ c.requires refl refl rows next refl refl (omega arith) (omega arith) refl
+pub returns-in_err-fill_marks-clause-makes : goal.returns-in_err-fill_marks-clause-makes
+returns-in_err-fill_marks-clause-makes c =
+    grown_so_far _ _ c.requires (keeps_places _) (keeps_places _) c.lengthen.ensures.rows c.lengthen.ensures.next c.fill_marks.ensures.beside c.fill_marks.ensures.awake c.fill_marks.ensures.waking refl refl
 
 pub returns-in_err-reserve-clause-makes : goal.returns-in_err-reserve-clause-makes
 returns-in_err-reserve-clause-makes c =
-    let rows : OnlyAppends c.args.self.now.rows.items c.lengthen.new.words.items = record { read = c.lengthen.ensures.words; longer = c.lengthen.ensures.grown } in
-    let next : OnlyAppends c.args.self.now.next.items c.lengthen-2.new.words.items = record { read = c.lengthen-2.ensures.words; longer = c.lengthen-2.ensures.grown } in
-    let keys : c.reserve.new.self.keys ≡ c.args.self.now.places.keys = search c.reserve.ensures.keys in
-    grown_so_far _ _ c.requires keys refl rows next refl refl c.reserve.ensures.room.0 (omega arith) refl
-
-pub returns-in_err-reserve-2-clause-makes : goal.returns-in_err-reserve-2-clause-makes
-returns-in_err-reserve-2-clause-makes c =
-    let rows : OnlyAppends c.args.self.now.rows.items c.lengthen.new.words.items = record { read = c.lengthen.ensures.words; longer = c.lengthen.ensures.grown } in
-    let next : OnlyAppends c.args.self.now.next.items c.lengthen-2.new.words.items = record { read = c.lengthen-2.ensures.words; longer = c.lengthen-2.ensures.grown } in
-    let keys : c.reserve.new.self.keys ≡ c.args.self.now.places.keys = search c.reserve.ensures.keys in
-    let kept : c.reserve-2.new.self.keys ≡ c.args.self.now.kept.keys = search c.reserve-2.ensures.keys in
-    grown_so_far _ _ c.requires keys kept rows next refl refl c.reserve.ensures.room.0 c.reserve-2.ensures.room.0 refl
+    grown_so_far _ _ c.requires c.reserve.ensures.places c.reserve.ensures.kept c.lengthen.ensures.rows c.lengthen.ensures.next c.fill_marks.ensures.beside c.fill_marks.ensures.awake c.fill_marks.ensures.waking refl refl
 
 pub returns-clause-makes : goal.returns-clause-makes
 returns-clause-makes c =
-    let rows : OnlyAppends c.args.self.now.rows.items c.lengthen.new.words.items = record { read = c.lengthen.ensures.words; longer = c.lengthen.ensures.grown } in
-    let next : OnlyAppends c.args.self.now.next.items c.lengthen-2.new.words.items = record { read = c.lengthen-2.ensures.words; longer = c.lengthen-2.ensures.grown } in
-    let keys : c.reserve.new.self.keys ≡ c.args.self.now.places.keys = search c.reserve.ensures.keys in
-    let kept : c.reserve-2.new.self.keys ≡ c.args.self.now.kept.keys = search c.reserve-2.ensures.keys in
     let few = c.requires.room.few in
     let more = c.if-room-self.false in
-    let places = c.in_ok-reserve.ensures.ok in
-    let others = c.in_ok-reserve-2.ensures.ok in
-    let long = c.in_ok-lengthen.ensures.long in
-    let next_long = c.in_ok-lengthen-2.ensures.long in
-    let count : length c.reserve.new.self.keys ≡ length c.args.self.now.places.keys = ap (λ (ks : List Place). length ks) keys in
-    grown _ _ c.requires keys kept rows next refl refl (omega arith)
-    (record { few = omega arith; places = omega (arith, c.len.ensures.len); kept = omega arith; rows = omega arith; next = omega arith })
+    let count : length c.reserve.new.places.keys ≡ length c.args.self.now.places.keys = ap (λ (ks : List Place). length ks) c.reserve.ensures.places.keys in
+    let a = c.in_ok-reserve.ensures.places_room in
+    let b = c.in_ok-reserve.ensures.kept_room in
+    let d = c.in_ok-lengthen.ensures.rows_long in
+    let e = c.in_ok-lengthen.ensures.next_long in
+    let f = c.in_ok-fill_marks.ensures.beside_long in
+    let g = c.in_ok-fill_marks.ensures.awake_long in
+    let h = c.in_ok-fill_marks.ensures.waking_long in
+    grown _ _ c.requires c.reserve.ensures.places c.reserve.ensures.kept c.lengthen.ensures.rows c.lengthen.ensures.next c.fill_marks.ensures.beside c.fill_marks.ensures.awake c.fill_marks.ensures.waking refl
+    (omega arith) (record { few = omega arith; places = omega arith; kept = omega arith; rows = omega arith; next = omega arith; beside = omega arith; awake = omega arith; waking = omega arith })
