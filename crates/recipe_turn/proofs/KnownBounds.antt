@@ -12,7 +12,7 @@ use Rattle.life_cells.specs.BoxRangeLaws.{box_in_range}
 use Rattle.book_parts.specs.declared.settings.Settings.{Settings}
 use Rattle.recipe_turn.specs.Range.{IsWithinReach}
 use Rattle.recipe_turn.specs.Turn.{IsInReach, IsAheadOrOwn}
-use Rattle.recipe_turn.specs.Bounds.{AllKeep, IsFirstBreaking}
+use Rattle.recipe_turn.specs.Bounds.{AllKeep, IsFirstBreaking, KeepsBoth}
 use Rattle.recipe_turn.specs.Breaches.{KeepsReach, IsKnown, IsFirstBreach, AreKnown}
 use Rattle.recipe_turn.specs.declared.breaches.Breach.{Breach}
 use Rattle.recipe_turn.specs.declared.breaches.Breaches.{Breaches}
@@ -47,12 +47,18 @@ none_keeps settings delays start s t breaches none same =
     both_kept settings delays start (alive s) t breaches same (λ x y live. absurd (dead x y live)) (λ x y live. absurd (dead x y live))
 
 -- with all cells in a box that is clear
+pub clear_both : (settings : Settings) (delays : List ℤ) (s : Plane) (t : ℕ) (box : Bounds) → IsLeastBox box s → ((x y : ℤ) → InBox box x y → IsInReach settings x y) →
+    ((x y : ℤ) → InBox box x y → pos 2 ≤ℤ (pos 2 *ℤ (x +ℤ y) +ℤ settings.approach)) → KeepsBoth settings delays t s
+clear_both settings delays s t box least near ahead = record {
+  reach = λ x y live. near x y (least.holds.each x y live);
+  tail = λ x y live. record { own = λ behind. let far = ahead x y (least.holds.each x y live) in absurd (omega (arith, ints, behind, far)) };
+}
+
 pub clear_keeps : (settings : Settings) (delays : List ℤ) (start s : Plane) (t : ℕ) (breaches : Breaches) (box : Bounds) → IsLeastBox box s →
     ((x y : ℤ) → InBox box x y → IsInReach settings x y) → ((x y : ℤ) → InBox box x y → pos 2 ≤ℤ (pos 2 *ℤ (x +ℤ y) +ℤ settings.approach)) → s ≡ run t start →
     AreKnown settings delays start t breaches → AreKnown settings delays start (t + 1) breaches
 clear_keeps settings delays start s t breaches box least near ahead same =
-    both_kept settings delays start s t breaches same (λ x y live. near x y (least.holds.each x y live))
-    (λ x y live. record { own = λ behind. let far = ahead x y (least.holds.each x y live) in absurd (omega (arith, ints, behind, far)) })
+    let both = clear_both settings delays s t box least near ahead in both_kept settings delays start s t breaches same both.reach both.tail
 
 -- ---- the corners of the least box of a set in range
 

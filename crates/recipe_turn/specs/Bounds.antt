@@ -1,5 +1,5 @@
 -- The bounds that the cells of kinds and turns keep. A bound says of an x and a y whether there may be a live cell.
-use Rattle.std.specs.Prelude.{◌≡◌, ◌≤◌, true, ℤ}
+use Rattle.std.specs.Prelude.{◌≡◌, ℕ, ◌≤◌, true, ℤ, List}
 use Rattle.std.specs.List.{AllByRecursion}
 use Rattle.life_plane.specs.Plane.{Plane}
 use Rattle.life_cells.specs.declared.cell.Cell.{Cell}
@@ -30,3 +30,8 @@ Keeps settings (Tail delays t) x y = IsAheadOrOwn settings delays.now t x y
 abbrev pub IsProperBound : Bound → Type 0
 IsProperBound (Tail delays t) = AllByRecursion IsDelay delays.now × (t ≤ LONGEST_TURN)
 IsProperBound other = Unit {0}
+
+-- a generation of a turn keeps the reach and the tail
+pub record KeepsBoth (settings : Settings) (delays : List ℤ) (generation : ℕ) (s : Plane) : Type 0 where
+  pub reach : AllKeep (IsInReach settings) s
+  pub tail : AllKeep (IsAheadOrOwn settings delays generation) s

@@ -10,8 +10,9 @@ ghost use Rattle.book_parts.specs.Proper.{IsDelay};
 use crate::refusal::TurnRefusal;
 use book_parts::limits::LEAST_GAP;
 
-/// The place, counted from 1, of the first delay that isn't 0 as the first or at least a gap more than the one before.
-fn first_narrow(delays: &[i64]) -> Option<usize>
+/// The place, counted from 1, of the first delay that isn't 0 as the first or at least a gap more than the one before; None exactly where
+/// there is none. It takes no memory.
+pub fn first_narrow(delays: &[i64]) -> Option<usize>
     requires delays { AllByRecursion IsDelay delays.now }
     requires some { 0 < length delays.now }
     ensures { MatchOption result (AreApart delays.now) (IsFirstNarrow delays.now) }

@@ -9,8 +9,8 @@ ghost use Rattle.book_parts.specs.Proper.{IsKindNumber, IsProperEnd};
 use book_parts::{RawKind, TurnEnd};
 use life_cells::CellSet;
 
-/// The cells of the kind with this number, counted from 1.
-pub(crate) fn kind_cells(kinds: &[RawKind], number: usize) -> &CellSet
+/// The cells of the kind with this number, counted from 1. It takes no memory.
+pub fn kind_cells(kinds: &[RawKind], number: usize) -> &CellSet
     requires { IsKindNumber (length kinds.now) number }
     ensures { alive result.now ≡ kind_plane kinds.now number }
 {
