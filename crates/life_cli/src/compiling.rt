@@ -27,7 +27,7 @@ use std::alloc::Global;
 use std::sync::ledger::Ledger;
 use stream_build::{Built, compile as build};
 
-// Refuses a set of cells that is no target.
+/// Refuses a set of cells that is no target.
 fn target_of<L: Ledger>(
     alloc: Global,
     cells: CellSet,
@@ -47,7 +47,7 @@ fn target_of<L: Ledger>(
     }
 }
 
-// What a checked book builds for a target.
+/// What a checked book builds for a target.
 fn plan(alloc: Global, book: &CheckedBook, target: &Target) -> Result<Built, Status>
     ensures ok { IfOk result (λ built. IsBuilt book.now (alive target.now) built) }
     ensures range { IfOk result (λ built. IsInRange (2 ^ 58) (alive built.pattern)) }
@@ -67,7 +67,7 @@ fn plan(alloc: Global, book: &CheckedBook, target: &Target) -> Result<Built, Sta
     }
 }
 
-// The text of what a checked book builds for a target.
+/// The text of what a checked book builds for a target.
 fn text_of_plan(alloc: Global, book: &CheckedBook, target: &Target) -> Result<Vec<u8>, Status>
     ensures { (count : ℕ) → EndWith (planning book.now (alive target.now)) ⊥ count count result }
 {
@@ -76,7 +76,7 @@ fn text_of_plan(alloc: Global, book: &CheckedBook, target: &Target) -> Result<Ve
     Ok(text)
 }
 
-// The text that answers `compile` for a book and cells that were read.
+/// The text that answers `compile` for a book and cells that were read.
 fn answer_of<L: Ledger>(
     alloc: Global,
     book: RawBook,

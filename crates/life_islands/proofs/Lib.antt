@@ -1,7 +1,7 @@
 -- Lemmas on the search for islands.
 pub mod Adding
 pub mod Flooding
-pub mod Steps
+pub mod Linking
 pub mod Ranking
 pub mod Noting
 pub mod Listing

@@ -12,7 +12,7 @@ use Rattle.life_cells.specs.declared.cell.Cell.{Cell}
 use Rattle.life_islands.specs.declared.island.Island.{Island}
 use Rattle.life_islands.specs.Islands.{IsIsland, IsNoted, IsInOne, AreIslands, rest_of}
 use Rattle.life_islands.specs.Joined.{Lives}
-use Rattle.life_islands.specs.JoinedLaws.{joined_step}
+use Rattle.life_islands.specs.JoinedLaws.{joined_link}
 use Rattle.life_cells.specs.Firsts.{IsFirstLive}
 use Rattle.life_islands.specs.Order.{ComesBefore, AreInOrder}
 use Rattle.life_islands.specs.OrderLaws.{one_first_cell, one_comes_before, not_before_itself}
@@ -29,7 +29,7 @@ both_and a b h k = rw (h, k) refl
 
 -- cells of an island that are within distance 2 of live cells are joined with them
 pub island_takes : (s t : Plane) → IsIsland s t → (a b : Cell) → Lives t a → Lives s b → Within (pos 2) a.x a.y b.x b.y → Lives t b
-island_takes s t h a b lives other near = h.whole a b lives (joined_step s a b (h.within a lives) (record { lives = other; near = near }))
+island_takes s t h a b lives other near = h.whole a b lives (joined_link s a b (h.within a lives) (record { lives = other; near = near }))
 
 -- an island is apart from the rest of its set
 pub island_apart : (s t : Plane) → IsIsland s t → Apart t (rest_of s t)

@@ -12,7 +12,7 @@ use Rattle.life_cells.specs.declared.cell.Cell.{Cell}
 use Rattle.life_islands.specs.declared.island.Island.{Island}
 use Rattle.life_islands.specs.Islands.{IsIsland, IsNoted, IsInOne, AreIslands}
 use Rattle.life_islands.specs.IslandLaws.{IsAmong, each_among, sharing_islands}
-use Rattle.life_islands.specs.Joined.{Lives, Steps, LeadsBy, AreJoined}
+use Rattle.life_islands.specs.Joined.{Lives, Links, LeadsBy, AreJoined}
 use Rattle.life_cells.specs.Firsts.{IsFirstLive}
 use Rattle.life_islands.specs.MovedIslands.{IsMovedIsland, AreMovedIslands}
 use Rattle.life_islands.specs.Order.{IsGreatestU, ComesBefore, AreInOrder}
@@ -39,26 +39,26 @@ moved_lives dx dy s c lives = (λ i. s (there_and_back c.x dx i) (there_and_back
 
 -- ---- joined cells
 
-moved_step : (dx dy : ℤ) (s : Plane) (a b : Cell) → Steps s a b → Steps (shift dx dy s) (moved dx dy a) (moved dx dy b)
-moved_step dx dy s a b step =
-    let w = step.near in
-    record { lives = moved_lives dx dy s b step.lives; near = record { right = omega (arith, ints, w.right); left = omega (arith, ints, w.left); below = omega (arith, ints, w.below); above = omega (arith, ints, w.above) } }
+moved_link : (dx dy : ℤ) (s : Plane) (a b : Cell) → Links s a b → Links (shift dx dy s) (moved dx dy a) (moved dx dy b)
+moved_link dx dy s a b link =
+    let w = link.near in
+    record { lives = moved_lives dx dy s b link.lives; near = record { right = omega (arith, ints, w.right); left = omega (arith, ints, w.left); below = omega (arith, ints, w.below); above = omega (arith, ints, w.above) } }
 
 moved_leads : (dx dy : ℤ) (s : Plane) (a : Cell) (cells : List Cell) (b : Cell) → LeadsBy s a cells b → LeadsBy (shift dx dy s) (moved dx dy a) (map (moved dx dy) cells) (moved dx dy b)
 moved_leads dx dy s a [] b is = ap (moved dx dy) is
-moved_leads dx dy s a (c ∷ cells) b leads = (moved_step dx dy s a c leads.0, moved_leads dx dy s c cells b leads.1)
+moved_leads dx dy s a (c ∷ cells) b leads = (moved_link dx dy s a c leads.0, moved_leads dx dy s c cells b leads.1)
 
 moved_joined : (dx dy : ℤ) (s : Plane) (a b : Cell) → AreJoined s a b → AreJoined (shift dx dy s) (moved dx dy a) (moved dx dy b)
 moved_joined dx dy s a b joined = record { lives = moved_lives dx dy s a joined.lives; cells = map (moved dx dy) joined.cells; leads = moved_leads dx dy s a joined.cells b joined.leads }
 
-origin_step : (dx dy : ℤ) (s : Plane) (a b : Cell) → Steps (shift dx dy s) a b → Steps s (origin dx dy a) (origin dx dy b)
-origin_step dx dy s a b step =
-    let w = step.near in
-    record { lives = step.lives; near = record { right = omega (arith, ints, w.right); left = omega (arith, ints, w.left); below = omega (arith, ints, w.below); above = omega (arith, ints, w.above) } }
+origin_link : (dx dy : ℤ) (s : Plane) (a b : Cell) → Links (shift dx dy s) a b → Links s (origin dx dy a) (origin dx dy b)
+origin_link dx dy s a b link =
+    let w = link.near in
+    record { lives = link.lives; near = record { right = omega (arith, ints, w.right); left = omega (arith, ints, w.left); below = omega (arith, ints, w.below); above = omega (arith, ints, w.above) } }
 
 origin_leads : (dx dy : ℤ) (s : Plane) (a : Cell) (cells : List Cell) (b : Cell) → LeadsBy (shift dx dy s) a cells b → LeadsBy s (origin dx dy a) (map (origin dx dy) cells) (origin dx dy b)
 origin_leads dx dy s a [] b is = ap (origin dx dy) is
-origin_leads dx dy s a (c ∷ cells) b leads = (origin_step dx dy s a c leads.0, origin_leads dx dy s c cells b leads.1)
+origin_leads dx dy s a (c ∷ cells) b leads = (origin_link dx dy s a c leads.0, origin_leads dx dy s c cells b leads.1)
 
 origin_joined : (dx dy : ℤ) (s : Plane) (a b : Cell) → AreJoined (shift dx dy s) a b → AreJoined s (origin dx dy a) (origin dx dy b)
 origin_joined dx dy s a b joined = record { lives = joined.lives; cells = map (origin dx dy) joined.cells; leads = origin_leads dx dy s a joined.cells b joined.leads }

@@ -1,4 +1,4 @@
-//! Islands of a set of cells: the parts whose cells are joined by steps of distance at most 2, in the order in which a construction
+//! Islands of a set of cells: the parts whose cells are joined by links of distance at most 2, in the order in which a construction
 //! builds them, and their shapes, which say what an island looks like whatever its place.
 #![tactic(auto)]
 

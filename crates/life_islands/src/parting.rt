@@ -16,7 +16,7 @@ use life_cells::{Cell, CellSet, NoMemory};
 use std::alloc::Global;
 use std::collections::BTreeMap;
 
-/// The islands of a set of cells: the parts whose cells are joined by steps of distance at most 2. The island with the greatest
+/// The islands of a set of cells: the parts whose cells are joined by links of distance at most 2. The island with the greatest
 /// u = x - y among its cells comes first; of islands with the same greatest u the one whose first cell in (y,x) order comes first.
 ///
 /// # Errors

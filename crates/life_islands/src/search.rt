@@ -3,7 +3,7 @@
 ghost use Rattle.std.specs.Prelude.{IfOk, OnOk};
 ghost use Rattle.life_cells.specs.Cells.{alive};
 ghost use Rattle.life_cells.specs.Listed.{listed};
-ghost use Rattle.life_islands.specs.Joined.{Lives, Steps};
+ghost use Rattle.life_islands.specs.Joined.{Lives, Links};
 ghost use Rattle.life_islands.specs.Search.{Adds, AreAllJoined};
 
 use indexmap::IndexSet;
@@ -24,15 +24,15 @@ pub(crate) fn joined_with(
     let mut place = 0;
     'cells: while place < found.len() {
         let here = found.as_slice()[place];
-        add_steps(&mut found, cells, here)?;
+        add_linked(&mut found, cells, here)?;
         place += 1;
     }
     Ok(found)
 }
 
-/// Adds the cells to which a step leads from this one.
-fn add_steps(found: &mut IndexSet<Cell>, cells: &CellSet, here: Cell) -> Result<(), NoMemory>
-    ensures { OnOk result (Adds (Steps (alive cells.now) here) found.old.keys found.new.keys) }
+/// Adds the cells to which a link leads from this one.
+fn add_linked(found: &mut IndexSet<Cell>, cells: &CellSet, here: Cell) -> Result<(), NoMemory>
+    ensures { OnOk result (Adds (Links (alive cells.now) here) found.old.keys found.new.keys) }
 {
     for dy in -2..3 {
         add_all(found, cells.close_in_row(here, dy))?;

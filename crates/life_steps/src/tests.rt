@@ -23,8 +23,8 @@ fn with_counter<L: Ledger>(blank: Blank)
     two_generations(&mut steps);
 }
 
-// The pick of the ledger stands in `proofs/tests/counts_from_a_blank/Invariants.antt`. `main` writes the
-// same lines under its own folder; a caller with bounds of its own writes `ghosts-with_counter g a`.
+/// The pick of the ledger stands in `proofs/tests/counts_from_a_blank/Invariants.antt`. `main` writes the
+/// same lines under its own folder; a caller with bounds of its own writes `ghosts-with_counter g a`.
 #[test]
 fn counts_from_a_blank() {
     with_counter::<Brand>(Blank::new(1));

@@ -1,6 +1,6 @@
 use Rattle.std.proofs.Common.{refl}
-use Rattle.life_islands.proofs.Steps.{rows_begin, rows_more, rows_end}
-use Rattle.life_islands.proofs.search.add_steps.Goals as goal
+use Rattle.life_islands.proofs.Linking.{rows_begin, rows_more, rows_end}
+use Rattle.life_islands.proofs.search.add_linked.Goals as goal
 
 pub loop-dy-init : goal.loop-dy-init
 loop-dy-init c = rows_begin _ _ _
