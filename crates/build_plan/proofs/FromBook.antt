@@ -17,7 +17,7 @@ use Rattle.recipe_hit.specs.Checked.{Struck}
 use Rattle.recipe_hit.specs.Sound as salvo
 use Rattle.recipe_hit.specs.declared.hit.Hit.{Hit}
 use Rattle.recipe_book.specs.Checked.{CheckedEntries, IsCheckedBook, IsAt}
-use Rattle.event_times.specs.Closing.{IsSoundHere}
+use Rattle.plan_facts.specs.MayTurn.{IsSoundHere}
 use Rattle.build_plan.proofs.Goes.{AreSoundTurns}
 
 -- what holds of each holds of the one with a number

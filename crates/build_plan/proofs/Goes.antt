@@ -17,12 +17,11 @@ use Rattle.elbow_graph.specs.Exits.{exits_of}
 use Rattle.elbow_graph.specs.Goals.{MayPass, IsEnd, Passes, IsRoute}
 use Rattle.elbow_graph.specs.Numbered.{IsNumbered}
 use Rattle.elbow_graph.specs.NumberedLaws.{numbered_once, turn_numbered}
-use Rattle.event_times.specs.Schedule.{Timed}
-use Rattle.event_times.specs.Closing.{IsSoundHere}
+use Rattle.event_times.specs.TimedTurns.{Timed}
 use Rattle.plan_facts.specs.Happenings.{SalvoHit, Happening}
 use Rattle.plan_facts.specs.Happenings.Happening.{Turns, Hits}
 use Rattle.plan_facts.specs.State.{State, Hand}
-use Rattle.plan_facts.specs.MayTurn.{MayTurn, after_turn, lane_thrown}
+use Rattle.plan_facts.specs.MayTurn.{IsSoundHere, MayTurn, after_turn, lane_thrown}
 use Rattle.plan_facts.specs.MayHit.{MayHit, after_hit}
 use Rattle.plan_facts.specs.Facts.{AllMayCome, after_all}
 use Rattle.plan_facts.specs.ListLaws.{both_may, after_both}

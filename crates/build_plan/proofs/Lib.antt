@@ -12,6 +12,7 @@ pub mod PlanGoes
 pub mod Builds
 pub mod FromBook
 pub mod OfBook
+pub mod HitsForIslands
 pub mod Pushing
 pub mod Numbers
 pub mod OneByOne

@@ -11,6 +11,7 @@ pub mod Usable
 pub mod Plan
 pub mod Stops
 pub mod Happenings
+pub mod PlanHits
 pub mod Walked
 pub mod Visited
 pub mod ServedWalk

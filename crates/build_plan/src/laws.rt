@@ -1,9 +1,12 @@
-//! Laws of plans and of stops: a book has at most one plan for a target, or one stop, and not both.
+//! Laws of plans and of stops: a book has at most one plan for a target, or one stop, and not both; what a plan's events stand for, and where
+//! it has hits.
 
 ghost use Rattle.std.specs.Prelude.{◌≡◌, ◌≢◌, neg_ℤ, List};
 ghost use Rattle.std.specs.List.{AllByRecursion};
 ghost use Rattle.life_plane.specs.Plane.{Plane, shift};
 ghost use Rattle.life_cells.specs.Cells.{alive};
+ghost use Rattle.life_islands.specs.Islands.{AreIslands};
+ghost use Rattle.life_islands.specs.declared.island.Island.{Island};
 ghost use Rattle.recipe_book.specs.Checked.{CheckedEntries, IsCheckedBook};
 ghost use Rattle.plan_facts.specs.Happenings.{Happening};
 ghost use Rattle.plan_facts.specs.Facts.{IsConstruction};
@@ -11,6 +14,7 @@ ghost use Rattle.build_plan.specs.Happenings.{AllStandFor, IsOfBook};
 ghost use Rattle.build_plan.specs.declared.plan.Plan.{Plan as Planned};
 ghost use Rattle.build_plan.specs.declared.error.PlanError.{PlanError as Stop};
 ghost use Rattle.build_plan.specs.Plan.{IsPlan, SamePlan};
+ghost use Rattle.build_plan.specs.PlanHits.{HitsForIslands};
 ghost use Rattle.build_plan.specs.Stops.{PlanStops};
 
 use crate::error::PlanError;
@@ -56,4 +60,10 @@ pub fn plans_construct()
 /// Each event of a plan is one of the book's: numbers of turns and salvos are those of the accepted ones, and places those of a salvo's hits.
 pub fn plans_are_of_their_book()
     ensures { (book : CheckedEntries) (target : Plane) (plan : Planned) → IsPlan book target plan → AllByRecursion (IsOfBook book) plan.events.items }
+{}
+
+/// A plan has hits, and a first hand, exactly where the target has an island.
+pub fn plans_hit_where_islands_are()
+    ensures { (book : CheckedEntries) → IsCheckedBook book → (target : Plane) (plan : Planned) → IsPlan book target plan →
+        (islands : List Island) → AreIslands target islands → HitsForIslands islands plan }
 {}

@@ -10,7 +10,7 @@ use Rattle.book_parts.specs.declared.turn.RawTurn.{RawTurn}
 use Rattle.book_parts.specs.declared.turn.TurnEnd.{TurnEnd}
 use Rattle.book_parts.specs.declared.turn.TurnEnd.TheVariants.{Close, Move, Emit}
 use Rattle.recipe_hit.specs.declared.frame.HitFrame.{HitFrame}
-use Rattle.event_times.specs.Schedule.{Timed, end, Thrown, Past, throw_after, IsBehindTurn, IsBehindThrow}
+use Rattle.event_times.specs.TimedTurns.{Timed, end, Thrown, Past, throw_after, IsBehindTurn, IsBehindThrow}
 use Rattle.event_times.specs.Events.{History, HasBeen, IsSpared, SparesHits, MayHappen, StartsEarliest, history_after, hits_with}
 use Rattle.event_times.specs.Events.Event.{Turn, Hit}
 use Rattle.event_times.specs.Least.{been, IsBehindTime, IsBehindSent, SparesThese, MayStartThen}

@@ -17,7 +17,7 @@ use Rattle.book_parts.specs.declared.turn.TurnEnd.{TurnEnd}
 use Rattle.book_parts.specs.declared.turn.TurnEnd.TheVariants.{Close, Move, Emit}
 use Rattle.recipe_hit.specs.declared.frame.HitFrame.{HitFrame}
 use Rattle.recipe_hit.specs.declared.limits.TheConstants.{LONGEST_HIT}
-use Rattle.event_times.specs.Schedule.{advance_of}
+use Rattle.event_times.specs.TimedTurns.{advance_of}
 use Rattle.event_times.specs.Events.{hit_end, IsSpared}
 use Rattle.event_times.specs.Least.{thrown_of, been, IsBehindTime, IsBehindSent, SparesThese, MayStartThen, IsLeastOf, IsNear, IsNearTurn, IsNearEmission, IsNearSent, AreNearEmissions, IsNearHit, AreNear}
 use Rattle.event_times.specs.declared.least.TurnTime.{TurnTime}

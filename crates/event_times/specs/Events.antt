@@ -13,8 +13,8 @@ use Rattle.book_parts.specs.declared.turn.TurnEnd.{TurnEnd}
 use Rattle.book_parts.specs.declared.turn.TurnEnd.TheVariants.{Close, Move, Emit}
 use Rattle.book_parts.specs.Kinds.{kind_plane}
 use Rattle.recipe_hit.specs.SceneBoxes.{as_box}
-use Rattle.event_times.specs.Schedule.{Timed, end, Thrown, Past, no_past, past_after, MayStart}
-use Rattle.event_times.specs.Pattern.{turn_gliders}
+use Rattle.event_times.specs.TimedTurns.{Timed, end, Thrown, Past, no_past, past_after, MayStart}
+use Rattle.recipe_turn.specs.Turn.{gliders}
 
 -- a hit at the hand, moved to the hand's place: its lane, the quarter of its glider's index at which it begins, its bounds, and how long it lasts
 pub record Struck : Type 0 where
@@ -92,6 +92,10 @@ abbrev pub AreChosenEvents : Settings → History → List Event → Type 0
 AreChosenEvents settings past [] = Unit {0}
 AreChosenEvents settings past (Turn m ∷ events) = StartsEarliest settings past m × AreChosenEvents settings (history_after past (Turn m)) events
 AreChosenEvents settings past (Hit h ∷ events) = AreChosenEvents settings (history_after past (Hit h)) events
+
+-- a turn's gliders in the plane at generation 0: one for each delay, of index -(start + approach - 4 shift) - delay
+abbrev pub turn_gliders : Settings → Timed → Plane
+turn_gliders settings m = gliders settings m.turn.delays (pos 4 *ℤ m.shift -ℤ pos m.start)
 
 -- the gliders of all turns
 abbrev pub stream_of : Settings → List Event → Plane

@@ -4,7 +4,7 @@ use Rattle.std.specs.List.{AllByRecursion}
 use Rattle.std.specs.declared.option.Option.TheVariants.{Some, None}
 use Rattle.life_cells.specs.Boxes.{IsBoxInRange}
 use Rattle.book_parts.specs.Limits.{IsFrom}
-use Rattle.event_times.specs.Schedule.{Thrown, IsAfter, HasPassed}
+use Rattle.event_times.specs.TimedTurns.{Thrown, IsAfter, HasPassed}
 use Rattle.event_times.specs.Events.{HasBeen, IsSpared}
 use Rattle.event_times.specs.declared.least.TurnTime.{TurnTime}
 use Rattle.event_times.specs.declared.least.Emission.{Emission}

@@ -19,8 +19,8 @@ use Rattle.book_parts.specs.declared.turn.TurnEnd.TheVariants.{Close, Move, Emit
 use Rattle.book_parts.specs.Limits.{AreProper}
 use Rattle.recipe_turn.specs.Kind.{IsValidKind}
 use Rattle.recipe_turn.specs.Turn.{IsSound, AreSpaced, AreSpacedFrom, gliders, turn_start, turn_end, IsInFront}
-use Rattle.event_times.specs.Schedule.{Timed, advance_of}
-use Rattle.event_times.specs.Pattern.{turn_gliders}
+use Rattle.event_times.specs.TimedTurns.{Timed, advance_of}
+use Rattle.event_times.specs.Events.{turn_gliders}
 use Rattle.book_parts.specs.Kinds.{kind_plane, next_plane}
 use Rattle.event_times.specs.SceneTurns.{Half, half_approach, rules, throw_of, framed, placed}
 

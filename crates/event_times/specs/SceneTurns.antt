@@ -10,7 +10,7 @@ use Rattle.book_parts.specs.declared.turn.RawTurn.{RawTurn}
 use Rattle.book_parts.specs.declared.turn.TurnEnd.{TurnEnd}
 use Rattle.book_parts.specs.declared.turn.TurnEnd.TheVariants.{Close, Move, Emit}
 use Rattle.book_parts.specs.Limits.{AreProper, IsApproach}
-use Rattle.event_times.specs.Schedule.{Timed, advance_of}
+use Rattle.event_times.specs.TimedTurns.{Timed, advance_of}
 use Rattle.book_parts.specs.Kinds.{kind_plane, next_plane}
 
 -- half of the approach, which is a multiple of 4

@@ -4,7 +4,7 @@ ghost use Rattle.std.specs.Prelude.{◌≡◌, ℕ, ◌≤◌, pos, ◌*ℤ◌, 
 ghost use Rattle.book_parts.specs.Limits.{IsFrom};
 ghost use Rattle.book_parts.specs.Proper.{IsProperEnd, IsProperTurn};
 ghost use Rattle.book_parts.specs.declared.limits.TheConstants.{MOST_GLIDERS, GREATEST_REACH};
-ghost use Rattle.event_times.specs.Schedule.{advance_of};
+ghost use Rattle.event_times.specs.TimedTurns.{advance_of};
 ghost use Rattle.event_times.specs.Events.{hit_end, no_history};
 ghost use Rattle.event_times.specs.Least.{AreNear, IsLeastOf, thrown_of};
 ghost use Rattle.event_times.specs.Clock.{emission_of, sent_after, AreOver, IsKept, TurnIsAdded, HitIsAdded, Shows, ends_of, n_of};

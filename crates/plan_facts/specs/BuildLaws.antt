@@ -9,7 +9,7 @@ use Rattle.life_plane.specs.Strips.{UAtLeast}
 use Rattle.life_scene.specs.Whole.{IsFar}
 use Rattle.life_scene.specs.Build.{Strike, settled}
 use Rattle.recipe_hit.specs.Strike.{IsHit}
-use Rattle.event_times.specs.Schedule.{Timed, end, advance_of, Thrown, throw_after, IsBehindTurn, IsBehindThrow}
+use Rattle.event_times.specs.TimedTurns.{Timed, end, advance_of, Thrown, throw_after, IsBehindTurn, IsBehindThrow}
 use Rattle.event_times.specs.SceneTurns.{rules, throw_of, placed}
 use Rattle.event_times.specs.SceneTurnLaws.{sound_turn, valid_kind, no_kind}
 use Rattle.lane_clear.specs.Frames.{moved_bounds}

@@ -4,7 +4,7 @@ use Rattle.std.specs.List.{AllByRecursion}
 use Rattle.life_plane.specs.Plane.{Plane}
 use Rattle.life_plane.specs.Strips.{Each}
 use Rattle.life_scene.specs.Clearance.{ComesPast}
-use Rattle.event_times.specs.Schedule.{Timed, end}
+use Rattle.event_times.specs.TimedTurns.{Timed, end}
 use Rattle.event_times.specs.Events.{HasBeen, SparesHit}
 use Rattle.recipe_hit.specs.SceneBoxes.{as_box}
 use Rattle.life_scene.specs.Hits as scene

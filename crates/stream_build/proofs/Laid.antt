@@ -11,9 +11,8 @@ use Rattle.elbow_graph.specs.Numbered.{IsNumbered}
 use Rattle.elbow_graph.specs.NumberedLaws.{numbered_once}
 use Rattle.recipe_turn.specs.Checked.{raws}
 use Rattle.recipe_book.specs.Checked.{CheckedEntries}
-use Rattle.event_times.specs.Schedule.{Timed}
-use Rattle.event_times.specs.Pattern.{turn_gliders}
-use Rattle.event_times.specs.Events.{stream_of}
+use Rattle.event_times.specs.TimedTurns.{Timed}
+use Rattle.event_times.specs.Events.{turn_gliders, stream_of}
 use Rattle.plan_facts.specs.Happenings.{SalvoHit, Happening, events_of}
 use Rattle.plan_facts.specs.Happenings.Happening.{Turns, Hits}
 use Rattle.build_plan.specs.declared.event.Event.{Event}

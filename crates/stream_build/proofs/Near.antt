@@ -23,7 +23,7 @@ use Rattle.recipe_turn.specs.Checked.{raws}
 use Rattle.recipe_book.specs.Checked.{CheckedEntries, IsCheckedBook}
 use Rattle.event_times.specs.Early.{latest_end, IsNearShift}
 use Rattle.event_times.specs.Events.{stream_of}
-use Rattle.event_times.specs.Schedule.{Timed}
+use Rattle.event_times.specs.TimedTurns.{Timed}
 use Rattle.plan_facts.specs.Happenings.{SalvoHit, Happening, events_of}
 use Rattle.plan_facts.specs.Happenings.Happening.{Turns, Hits}
 use Rattle.plan_facts.specs.State.{hand_plane, first_hand}

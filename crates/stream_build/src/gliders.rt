@@ -8,7 +8,7 @@ ghost use Rattle.life_cells.specs.Listed.{listed};
 ghost use Rattle.book_parts.specs.Limits.{AreProper};
 ghost use Rattle.book_parts.specs.Proper.{IsDelay, IsProperTurn};
 ghost use Rattle.recipe_turn.specs.Turn.{gliders};
-ghost use Rattle.event_times.specs.Pattern.{turn_gliders};
+ghost use Rattle.event_times.specs.Events.{turn_gliders};
 ghost use Rattle.event_times.specs.Early.{IsNearShift, latest_end};
 ghost use Rattle.stream_build.specs.Laying.{IsTime};
 

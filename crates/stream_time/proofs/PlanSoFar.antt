@@ -30,7 +30,7 @@ use Rattle.recipe_hit.specs.declared.hit.Hit as hits
 use Rattle.recipe_book.specs.Checked.{CheckedEntries, IsCheckedBook}
 use Rattle.lane_clear.specs.Frames.{moved_frame, moved_bounds, farthest, IsFrameInRange}
 use Rattle.lane_clear.specs.MovedFrameLaws.{hit_at}
-use Rattle.event_times.specs.Schedule.{Timed, end}
+use Rattle.event_times.specs.TimedTurns.{Timed, end}
 use Rattle.event_times.specs.SceneTurns as scene
 use Rattle.event_times.specs.SceneTurnLaws.{sound_turn}
 use Rattle.event_times.specs.Events as timed

@@ -9,7 +9,7 @@ use Rattle.life_cells.specs.declared.cell.Cell.{Cell}
 use Rattle.book_parts.specs.declared.turn.RawTurn.{RawTurn}
 use Rattle.elbow_graph.specs.Numbered.{IsNumbered}
 use Rattle.recipe_turn.specs.Checked.{Checked, raws}
-use Rattle.event_times.specs.Pattern.{turn_gliders}
+use Rattle.event_times.specs.Events.{turn_gliders}
 use Rattle.event_times.specs.Early.{IsNearShift, latest_end}
 use Rattle.stream_time.specs.NearEvents.{IsNearEvent}
 use Rattle.stream_build.proofs.Laid.{IsLaid, some_start, some_turn, turn_laid, hit_laid, laid_ends}

@@ -1,4 +1,4 @@
--- When the turns of a stream may start, and when they do.
+-- Turns in time: what has been before a turn, and when the turn before it and the last throw let it start.
 use Rattle.std.specs.Prelude.{ℕ, ◌+◌, ◌≤◌, ℤ, pos, ◌+ℤ◌, ◌-ℤ◌, ◌*ℤ◌, ◌≤ℤ◌, List, [], ◌∷◌, Option}
 use Rattle.std.specs.declared.option.Option.TheVariants.{Some, None}
 use Rattle.life_plane.specs.Tracks.{gap}
@@ -8,7 +8,7 @@ use Rattle.book_parts.specs.declared.turn.RawTurn.{RawTurn}
 use Rattle.book_parts.specs.declared.turn.TurnEnd.{TurnEnd}
 use Rattle.book_parts.specs.declared.turn.TurnEnd.TheVariants.{Close, Move, Emit}
 
--- a turn of a stream: the elbow's shift before it, and when it starts
+-- a turn: the elbow's shift before it, and when it starts
 pub record Timed : Type 0 where
   pub turn : RawTurn
   pub shift : ℤ
@@ -69,18 +69,3 @@ IsBehindThrow settings (Some g) start = HasPassed settings.reach g start
 pub record MayStart (settings : Settings) (past : Past) (start : ℕ) : Type 0 where
   pub turn : IsBehindTurn past.turn start
   pub throw : IsBehindThrow settings past.throw start
-
--- each turn starts when it may
-abbrev pub IsValid : Settings → Past → List Timed → Type 0
-IsValid settings past [] = Unit {0}
-IsValid settings past (m ∷ ms) = MayStart settings past m.start × IsValid settings (past_after past m) ms
-
--- the least moment at which a turn may start
-pub record IsLeastStart (settings : Settings) (past : Past) (start : ℕ) : Type 0 where
-  pub may : MayStart settings past start
-  pub least : (other : ℕ) → MayStart settings past other → start ≤ other
-
--- each turn in order starts as soon as it may
-abbrev pub IsChosen : Settings → Past → List Timed → Type 0
-IsChosen settings past [] = Unit {0}
-IsChosen settings past (m ∷ ms) = IsLeastStart settings past m.start × IsChosen settings (past_after past m) ms
