@@ -1,5 +1,5 @@
 -- A plan has hits exactly where its target has an island.
-use Rattle.std.specs.Prelude.{◌≡◌, ℕ, ◌<◌, ℤ, List, [], ◌∷◌, ◌++◌, length, Option}
+use Rattle.std.specs.Prelude.{◌≡◌, ℕ, ◌<◌, ℤ, List, [], ◌∷◌, ◌++◌, length}
 use Rattle.std.specs.declared.option.Option.TheVariants.{Some, None}
 use Rattle.std.proofs.Common.{refl, sym, ap, subst, ◌∙◌, arith}
 use Rattle.life_plane.specs.Plane.{Plane}
@@ -12,17 +12,15 @@ use Rattle.life_islands.specs.declared.island.Island.{Island}
 use Rattle.book_parts.specs.declared.turn.RawTurn.{RawTurn}
 use Rattle.elbow_graph.specs.declared.elbow.Elbow.{Elbow}
 use Rattle.recipe_turn.specs.Checked.{raws}
-use Rattle.recipe_hit.specs.Checked.{Struck}
 use Rattle.recipe_hit.specs.declared.hit.Hit as struck
 use Rattle.recipe_book.specs.Checked.{CheckedEntries, IsCheckedBook}
 use Rattle.build_plan.specs.declared.event.Event.{Event}
 use Rattle.build_plan.specs.declared.plan.Plan.{Plan}
-use Rattle.build_plan.specs.declared.throw.Throw.{Throw}
 use Rattle.build_plan.specs.Numbers.{item_of}
 use Rattle.build_plan.specs.NumberLaws.{item_numbered}
 use Rattle.build_plan.specs.TurnEvents.{elbow_past, turn_events}
 use Rattle.build_plan.specs.Throws.{hits_of, hit_throws}
-use Rattle.build_plan.specs.Served.{AreServed, hit_event}
+use Rattle.build_plan.specs.Served.{AreServed}
 use Rattle.build_plan.specs.Stand.{Stand}
 use Rattle.build_plan.specs.Usable.{Taken, IsTaken, SaysFarewell}
 use Rattle.build_plan.specs.Plan.{first_stand, TakeOn, taken_events, first_place, IsPlan}

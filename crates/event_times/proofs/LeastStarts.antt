@@ -1,5 +1,5 @@
 -- What holds exactly from a number on, and the least start that follows.
-use Rattle.std.proofs.Common.{◌≡◌, ◌⊎◌, ◌↔◌, ℕ, ◌+◌, ◌-◌, ◌<◌, ◌≤◌, max, ℤ, pos, neg_ℤ, ◌+ℤ◌, ◌-ℤ◌, ◌*ℤ◌, ◌≤ℤ◌, List, [], ◌∷◌, ◌++◌, length, length-drop, get_or, take, drop, Option, sym, subst, ap, arith, inl, inr}
+use Rattle.std.proofs.Common.{◌≡◌, ◌⊎◌, ◌↔◌, ℕ, ◌+◌, ◌-◌, ◌<◌, ◌≤◌, max, ℤ, pos, neg_ℤ, ◌+ℤ◌, ◌-ℤ◌, ◌≤ℤ◌, List, [], ◌∷◌, ◌++◌, length, length-drop, get_or, take, drop, Option, sym, subst, arith, inl, inr}
 use Rattle.std.specs.Int.{int_max, int_min}
 use Rattle.std.specs.List.{AllByRecursion}
 use Rattle.std.specs.declared.option.Option.TheVariants.{Some, None}
@@ -12,7 +12,7 @@ use Rattle.event_times.specs.declared.least.TurnTime.{TurnTime}
 use Rattle.event_times.specs.declared.least.Emission.{Emission}
 use Rattle.event_times.specs.declared.least.Sent.{Sent}
 use Rattle.event_times.specs.declared.least.HitTime.{HitTime}
-use Rattle.event_times.specs.Least.{IsBehindTime, IsBehindSent, SparesThese, MayStartThen, IsLeastOf}
+use Rattle.event_times.specs.Least.{IsBehindTime, IsBehindSent, SparesThese, IsLeastOf}
 
 -- it holds exactly from this number on
 abbrev pub From : ℕ → (ℕ → Type 0) → Type 0

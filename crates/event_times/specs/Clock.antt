@@ -7,7 +7,7 @@ use Rattle.book_parts.specs.declared.turn.TurnEnd.{TurnEnd}
 use Rattle.book_parts.specs.declared.turn.TurnEnd.TheVariants.{Close, Move, Emit}
 use Rattle.recipe_hit.specs.declared.frame.HitFrame.{HitFrame}
 use Rattle.event_times.specs.TimedTurns.{Timed, end, advance_of, Thrown}
-use Rattle.event_times.specs.Events.{History, HasBeen, hit_end}
+use Rattle.event_times.specs.Events.{History, hit_end}
 use Rattle.event_times.specs.Least.{thrown_of, been, IsLeastOf}
 use Rattle.event_times.specs.declared.least.TurnTime.{TurnTime}
 use Rattle.event_times.specs.declared.least.Emission.{Emission}

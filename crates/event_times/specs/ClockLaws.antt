@@ -1,16 +1,16 @@
 -- A clock shows what has been, turn by turn and hit by hit.
-use Rattle.std.proofs.Common.{◌≡◌, ℕ, ◌+◌, ◌≤◌, ℤ, pos, ◌+ℤ◌, ◌-ℤ◌, ◌*ℤ◌, List, [], ◌∷◌, ◌++◌, length, map, take, drop, reverse, Option, length-append, refl, sym, ap, subst, ◌∙◌, arith, inl}
+use Rattle.std.proofs.Common.{◌≡◌, ℕ, ◌+◌, ◌≤◌, ℤ, pos, ◌+ℤ◌, ◌-ℤ◌, ◌*ℤ◌, List, [], ◌∷◌, ◌++◌, length, map, take, drop, reverse, Option, length-append, sym, ap, subst, ◌∙◌, arith, inl}
 use Rattle.std.specs.List.{AllByRecursion}
 use Rattle.std.specs.declared.option.Option.TheVariants.{Some, None}
 use Rattle.std.proofs.lemmas.Int.{ints}
 use Rattle.std.proofs.lemmas.List.{reverse-append, take-append-drop, take-append-le}
-use Rattle.life_plane.specs.ListLaws.{all_append, all_weaker}
+use Rattle.life_plane.specs.ListLaws.{all_append}
 use Rattle.book_parts.specs.declared.settings.Settings.{Settings}
 use Rattle.book_parts.specs.declared.turn.RawTurn.{RawTurn}
 use Rattle.book_parts.specs.declared.turn.TurnEnd.{TurnEnd}
 use Rattle.book_parts.specs.declared.turn.TurnEnd.TheVariants.{Close, Move, Emit}
 use Rattle.recipe_hit.specs.declared.frame.HitFrame.{HitFrame}
-use Rattle.event_times.specs.TimedTurns.{Timed, end, Thrown, Past, throw_after, IsBehindTurn, IsBehindThrow}
+use Rattle.event_times.specs.TimedTurns.{Timed, Thrown, throw_after, IsBehindTurn, IsBehindThrow}
 use Rattle.event_times.specs.Events.{History, HasBeen, IsSpared, SparesHits, MayHappen, StartsEarliest, history_after, hits_with}
 use Rattle.event_times.specs.Events.Event.{Turn, Hit}
 use Rattle.event_times.specs.Least.{been, IsBehindTime, IsBehindSent, SparesThese, MayStartThen}
@@ -18,7 +18,7 @@ use Rattle.event_times.specs.declared.least.TurnTime.{TurnTime}
 use Rattle.event_times.specs.declared.least.Sent.{Sent}
 use Rattle.event_times.specs.declared.least.HitTime.{HitTime}
 use Rattle.event_times.specs.declared.clock.Clock.{Clock}
-use Rattle.event_times.specs.Clock.{emission_of, sent_after, AreOver, AreOverAfter, IsKept, TurnIsAdded, AddsHit, HitIsAdded, time_of, throw_of, Shows}
+use Rattle.event_times.specs.Clock.{emission_of, sent_after, AreOver, AreOverAfter, TurnIsAdded, AddsHit, HitIsAdded, time_of, throw_of, Shows}
 
 -- ---- the three clauses are those of what has been
 

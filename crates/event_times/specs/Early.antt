@@ -1,5 +1,5 @@
 -- How late turns and hits may be: each turn adds less than 2^35 generations.
-use Rattle.std.specs.Prelude.{ℕ, ◌+◌, ◌*◌, ◌-◌, ◌≤◌, ◌^◌, ℤ, pos, neg_ℤ, length, Option}
+use Rattle.std.specs.Prelude.{ℕ, ◌+◌, ◌*◌, ◌≤◌, ◌^◌, ℤ, pos, neg_ℤ, Option}
 use Rattle.std.specs.List.{AllByRecursion}
 use Rattle.std.specs.declared.option.Option.TheVariants.{Some, None}
 use Rattle.life_cells.specs.Boxes.{IsBoxInRange}
@@ -9,7 +9,7 @@ use Rattle.event_times.specs.declared.least.TurnTime.{TurnTime}
 use Rattle.event_times.specs.declared.least.Sent.{Sent}
 use Rattle.event_times.specs.declared.least.HitTime.{HitTime}
 use Rattle.event_times.specs.declared.clock.Clock.{Clock}
-use Rattle.book_parts.specs.declared.limits.TheConstants.{GREATEST_SPAN, MOST_GLIDERS}
+use Rattle.book_parts.specs.declared.limits.TheConstants.{GREATEST_SPAN}
 
 -- a shift of the elbow in a plan
 abbrev pub IsNearShift : ℤ → Type 0

@@ -1,11 +1,10 @@
 -- Each turn adds less than 2^35 generations, so that all numbers stay small.
-use Rattle.std.specs.Prelude.{◌≡◌, ℕ, ◌+◌, ◌*◌, ◌≤◌, ◌^◌, ℤ, pos, neg_ℤ, ◌+ℤ◌, ◌-ℤ◌, ◌*ℤ◌, ◌≤ℤ◌, List, [], ◌∷◌, ◌++◌, length, drop, take, Option}
+use Rattle.std.specs.Prelude.{ℕ, ◌+◌, ◌≤◌, ◌^◌, ℤ, pos, List, [], ◌∷◌, ◌++◌, drop, take, Option}
 use Rattle.std.specs.List.{AllByRecursion}
 use Rattle.std.specs.declared.option.Option.TheVariants.{Some, None}
-use Rattle.std.proofs.Common.{sym, ap, subst, arith, inl}
+use Rattle.std.proofs.Common.{sym, subst, arith, inl}
 use Rattle.std.proofs.lemmas.Int.{ints}
 use Rattle.std.proofs.lemmas.List.{take-append-drop}
-use Rattle.life_plane.specs.Tracks.{gap}
 use Rattle.life_plane.specs.ListLaws.{all_push, all_weaker}
 use Rattle.life_cells.specs.Boxes.{IsBoxInRange}
 use Rattle.life_cells.specs.declared.bounds.Bounds.{Bounds}
@@ -18,8 +17,8 @@ use Rattle.book_parts.specs.declared.turn.TurnEnd.TheVariants.{Close, Move, Emit
 use Rattle.recipe_hit.specs.declared.frame.HitFrame.{HitFrame}
 use Rattle.recipe_hit.specs.declared.limits.TheConstants.{LONGEST_HIT}
 use Rattle.event_times.specs.TimedTurns.{advance_of}
-use Rattle.event_times.specs.Events.{hit_end, IsSpared}
-use Rattle.event_times.specs.Least.{thrown_of, been, IsBehindTime, IsBehindSent, SparesThese, MayStartThen, IsLeastOf, IsNear, IsNearTurn, IsNearEmission, IsNearSent, AreNearEmissions, IsNearHit, AreNear}
+use Rattle.event_times.specs.Events.{IsSpared}
+use Rattle.event_times.specs.Least.{been, IsBehindTime, IsBehindSent, SparesThese, MayStartThen, IsLeastOf, IsNearTurn, IsNearSent, AreNearEmissions, IsNearHit, AreNear}
 use Rattle.event_times.specs.declared.least.TurnTime.{TurnTime}
 use Rattle.event_times.specs.declared.least.Emission.{Emission}
 use Rattle.event_times.specs.declared.least.Sent.{Sent}

@@ -1,4 +1,4 @@
-use Rattle.std.proofs.Common.{◌≡◌, ℤ, w64, to_z, of_z, ap, ◌∙◌, arith}
+use Rattle.std.proofs.Common.{◌≡◌, w64, to_z, of_z, ap, ◌∙◌, arith}
 use Rattle.std.proofs.lemmas.Int.{ints, clamps}
 use Rattle.life_scene.specs.Hits.{last_index_before}
 use Rattle.recipe_hit.specs.SceneBoxes.{as_box}
