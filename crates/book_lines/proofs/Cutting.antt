@@ -7,15 +7,15 @@ use Rattle.book_parts.specs.Limits.{IsName, begins_with_letter}
 use Rattle.book_lines.specs.declared.statement.Body.{Body}
 use Rattle.book_lines.specs.declared.statement.Body.TheVariants.{TooMany}
 use Rattle.book_lines.specs.declared.statement.Placed.{Placed}
-use Rattle.book_lines.specs.declared.statement.Leaves.{Leaves}
-use Rattle.book_lines.specs.declared.statement.Leaves.TheVariants.{Close, Move, Emit}
+use Rattle.book_lines.specs.declared.statement.NamedEnd.{NamedEnd}
+use Rattle.book_lines.specs.declared.statement.NamedEnd.TheVariants.{Close, Move, Emit}
 use Rattle.book_lines.specs.declared.statement.ElbowLine.{ElbowLine}
 use Rattle.book_lines.specs.declared.statement.TurnLine.{TurnLine}
 use Rattle.book_lines.specs.declared.statement.SalvoLine.{SalvoLine}
 use Rattle.book_lines.specs.Lines.{HaveNoColon}
 use Rattle.book_lines.specs.Values.{Level, IsNumber, IsBodyAt}
 use Rattle.book_lines.specs.Values.Level.{Form, Numbers, Bodies, Whole}
-use Rattle.book_lines.specs.Forms.{IsOneNumber, IsPair, IsBody, IsPlacedBody, IsElbowLine, IsStep, IsEnding, IsTurnLine, IsProduct, IsHand, IsSalvoLine}
+use Rattle.book_lines.specs.Forms.{IsOneNumber, IsPair, IsBody, IsPlacedBody, IsElbowLine, IsNextKind, IsEnding, IsTurnLine, IsProduct, IsHand, IsSalvoLine}
 use Rattle.book_lines.specs.Cuts.{IsMove, IsEmit, IsTurnCut, IsSalvoCut}
 use Rattle.book_lines.specs.declared.fault.LineFault.TheVariants as fault
 use Rattle.book_lines.specs.declared.fault.LineError.{LineError}
@@ -57,8 +57,8 @@ one_free n items h = subst HaveNoColon (sym h.items_are) (h.number, tt)
 pair_free : (c : Cell) (items : List (List ℕ)) → IsPair Form c items → HaveNoColon items
 pair_free c items h = subst HaveNoColon (sym h.items_are) (h.number_x, (h.number_y, tt))
 
-step_free : (kind : List ℕ) (shift n : ℤ) (items more : List (List ℕ)) → IsStep Form kind shift n items more → HaveNoColon more → HaveNoColon items
-step_free kind shift n items more h k = subst HaveNoColon (sym h.items_are) (name_no_colon kind h.name_is, (h.number_shift, (h.number_n, k)))
+next_kind_free : (kind : List ℕ) (shift n : ℤ) (items more : List (List ℕ)) → IsNextKind Form kind shift n items more → HaveNoColon more → HaveNoColon items
+next_kind_free kind shift n items more h k = subst HaveNoColon (sym h.items_are) (name_no_colon kind h.name_is, (h.number_shift, (h.number_n, k)))
 
 no_word : (word : List ℕ) → length word ≡ 4 → MayStand word
 no_word word l e = let n = ap length e in omega arith
@@ -66,11 +66,11 @@ no_word word l e = let n = ap length e in omega arith
 no_close : MayStand (codes "close")
 no_close e = let n = ap length e in omega arith
 
-pub ending_free : (leaves : Leaves) (n : ℤ) (items : List (List ℕ)) → IsEnding Form leaves n items → HaveNoColon items
+pub ending_free : (end : NamedEnd) (n : ℤ) (items : List (List ℕ)) → IsEnding Form end n items → HaveNoColon items
 ending_free Close n items h = subst HaveNoColon (sym h.1.0) (no_close, one_free n h.0 h.1.1)
-ending_free (Move kind shift) n items h = subst HaveNoColon (sym h.1.0) (no_word (codes "move") refl, step_free kind shift n h.0 [] h.1.1 tt)
+ending_free (Move kind shift) n items h = subst HaveNoColon (sym h.1.0) (no_word (codes "move") refl, next_kind_free kind shift n h.0 [] h.1.1 tt)
 ending_free (Emit kind shift lane j) n items h =
-    subst HaveNoColon (sym h.1.1.0) (no_word (codes "emit") refl, step_free kind shift n h.0 h.1.0 h.1.1.1.0 (pair_free _ h.1.0 h.1.1.1.1))
+    subst HaveNoColon (sym h.1.1.0) (no_word (codes "emit") refl, next_kind_free kind shift n h.0 h.1.0 h.1.1.1.0 (pair_free _ h.1.0 h.1.1.1.1))
 
 -- ---- turns
 
@@ -86,13 +86,13 @@ pub turn_parts : (turn : TurnLine) (items : List (List ℕ)) (name kind : List �
 turn_parts turn items name kind ending delays h e free =
     let f = h.items_are in
     let rest : h.ending ++ (codes ":" ∷ h.delays) ≡ ending ++ (codes ":" ∷ delays) = cc in
-    let r = cut_once h.ending ending h.delays delays (ending_free turn.leaves turn.n h.ending h.ending_is) free rest in
+    let r = cut_once h.ending ending h.delays delays (ending_free turn.end turn.n h.ending h.ending_is) free rest in
     record { name_is = cc; kind_is = cc; ending_is = r.0; delays_are = r.1 }
 
 -- a line whose parts have their forms has the form of a turn
 pub turn_formed : (items : List (List ℕ)) (name kind : List ℕ) (ending delays : List (List ℕ)) → IsTurnCut items name kind ending delays → (turn : TurnLine) × IsTurnLine Form turn items
 turn_formed items name kind ending delays cut = (
-  record { name = name; kind = kind; leaves = cut.ending_is.0; n = cut.ending_is.1.0; delays = cut.delays_are.0 },
+  record { name = name; kind = kind; end = cut.ending_is.0; n = cut.ending_is.1.0; delays = cut.delays_are.0 },
   record {
     ending = ending;
     delays = delays;
@@ -228,68 +228,68 @@ hand_down items other l (Some c) h = (c, h)
 -- ---- steps of turns
 
 -- the texts of `KIND SHIFT N`
-pub step_texts : (l : Level) (items : List (List ℕ)) (kind t u : List ℕ) (more : List (List ℕ)) → items ≡ kind ∷ (t ∷ (u ∷ more)) → (k : List ℕ) (shift n : ℤ) (rest : List (List ℕ)) → (h : IsStep l k shift n items rest)
+pub next_kind_texts : (l : Level) (items : List (List ℕ)) (kind t u : List ℕ) (more : List (List ℕ)) → items ≡ kind ∷ (t ∷ (u ∷ more)) → (k : List ℕ) (shift n : ℤ) (rest : List (List ℕ)) → (h : IsNextKind l k shift n items rest)
     → (k ≡ kind) × ((h.text_shift ≡ t) × ((h.text_n ≡ u) × (rest ≡ more)))
-step_texts l items kind t u more e k shift n rest h = let f = h.items_are in (cc, (cc, (cc, cc)))
+next_kind_texts l items kind t u more e k shift n rest h = let f = h.items_are in (cc, (cc, (cc, cc)))
 
-pub step_form : (items : List (List ℕ)) (kind t u : List ℕ) (more : List (List ℕ)) → items ≡ kind ∷ (t ∷ (u ∷ more)) → IsName kind → MayStand t → MayStand u → IsStep Form kind (pos 0) (pos 0) items more
-step_form items kind t u more e n h k = record { text_shift = t; text_n = u; items_are = e; name_is = n; number_shift = h; number_n = k }
+pub next_kind_form : (items : List (List ℕ)) (kind t u : List ℕ) (more : List (List ℕ)) → items ≡ kind ∷ (t ∷ (u ∷ more)) → IsName kind → MayStand t → MayStand u → IsNextKind Form kind (pos 0) (pos 0) items more
+next_kind_form items kind t u more e n h k = record { text_shift = t; text_n = u; items_are = e; name_is = n; number_shift = h; number_n = k }
 
-pub step_stands : (items : List (List ℕ)) (kind t u : List ℕ) (more : List (List ℕ)) → items ≡ kind ∷ (t ∷ (u ∷ more)) → (k : List ℕ) (shift n : ℤ) (rest : List (List ℕ)) → IsStep Form k shift n items rest
+pub next_kind_stands : (items : List (List ℕ)) (kind t u : List ℕ) (more : List (List ℕ)) → items ≡ kind ∷ (t ∷ (u ∷ more)) → (k : List ℕ) (shift n : ℤ) (rest : List (List ℕ)) → IsNextKind Form k shift n items rest
     → MayStand t × MayStand u
-step_stands items kind t u more e k shift n rest h =
-    let texts = step_texts Form items kind t u more e k shift n rest h in
+next_kind_stands items kind t u more e k shift n rest h =
+    let texts = next_kind_texts Form items kind t u more e k shift n rest h in
     (subst MayStand texts.1.0 h.number_shift, subst MayStand texts.1.1.0 h.number_n)
 
-pub step_numbers : (items : List (List ℕ)) (kind t u : List ℕ) (more : List (List ℕ)) → items ≡ kind ∷ (t ∷ (u ∷ more)) → (k : List ℕ) (shift n : ℤ) (rest : List (List ℕ)) → IsStep Numbers k shift n items rest
+pub next_kind_numbers : (items : List (List ℕ)) (kind t u : List ℕ) (more : List (List ℕ)) → items ≡ kind ∷ (t ∷ (u ∷ more)) → (k : List ℕ) (shift n : ℤ) (rest : List (List ℕ)) → IsNextKind Numbers k shift n items rest
     → IsNumber t shift × IsNumber u n
-step_numbers items kind t u more e k shift n rest h =
-    let texts = step_texts Numbers items kind t u more e k shift n rest h in
+next_kind_numbers items kind t u more e k shift n rest h =
+    let texts = next_kind_texts Numbers items kind t u more e k shift n rest h in
     (subst (λ (w : List ℕ). IsNumber w shift) texts.1.0 h.number_shift, subst (λ (w : List ℕ). IsNumber w n) texts.1.1.0 h.number_n)
 
 -- moves
 pub move_form : (items : List (List ℕ)) (kind t u : List ℕ) (more : List (List ℕ)) → items ≡ kind ∷ (t ∷ (u ∷ more)) → IsName kind → more ≡ [] → MayStand t → MayStand u
-    → (leaves : Leaves) × ((n : ℤ) × IsMove Form leaves n items)
-move_form items kind t u more e n none h k = (Move kind (pos 0), (pos 0, subst (λ (rest : List (List ℕ)). IsStep Form kind (pos 0) (pos 0) items rest) none (step_form items kind t u more e n h k)))
+    → (end : NamedEnd) × ((n : ℤ) × IsMove Form end n items)
+move_form items kind t u more e n none h k = (Move kind (pos 0), (pos 0, subst (λ (rest : List (List ℕ)). IsNextKind Form kind (pos 0) (pos 0) items rest) none (next_kind_form items kind t u more e n h k)))
 
-pub move_shown : (items : List (List ℕ)) (kind t u : List ℕ) (more : List (List ℕ)) → items ≡ kind ∷ (t ∷ (u ∷ more)) → (leaves : Leaves) (n : ℤ) → IsMove Form leaves n items
+pub move_shown : (items : List (List ℕ)) (kind t u : List ℕ) (more : List (List ℕ)) → items ≡ kind ∷ (t ∷ (u ∷ more)) → (end : NamedEnd) (n : ℤ) → IsMove Form end n items
     → (more ≡ []) × (MayStand t × MayStand u)
 move_shown items kind t u more e Close n h = absurd h
 move_shown items kind t u more e (Move k shift) n h =
-    (sym (step_texts Form items kind t u more e k shift n [] h).1.1.1, step_stands items kind t u more e k shift n [] h)
+    (sym (next_kind_texts Form items kind t u more e k shift n [] h).1.1.1, next_kind_stands items kind t u more e k shift n [] h)
 move_shown items kind t u more e (Emit k shift lane j) n h = absurd h
 
-pub move_numbers : (items : List (List ℕ)) (kind t u : List ℕ) (more : List (List ℕ)) → items ≡ kind ∷ (t ∷ (u ∷ more)) → (leaves : Leaves) (n : ℤ) → IsMove Numbers leaves n items
+pub move_numbers : (items : List (List ℕ)) (kind t u : List ℕ) (more : List (List ℕ)) → items ≡ kind ∷ (t ∷ (u ∷ more)) → (end : NamedEnd) (n : ℤ) → IsMove Numbers end n items
     → (more ≡ []) × ((shift : ℤ) × (IsNumber t shift × IsNumber u n))
 move_numbers items kind t u more e Close n h = absurd h
 move_numbers items kind t u more e (Move k shift) n h =
-    (sym (step_texts Numbers items kind t u more e k shift n [] h).1.1.1, (shift, step_numbers items kind t u more e k shift n [] h))
+    (sym (next_kind_texts Numbers items kind t u more e k shift n [] h).1.1.1, (shift, next_kind_numbers items kind t u more e k shift n [] h))
 move_numbers items kind t u more e (Emit k shift lane j) n h = absurd h
 
 -- throws
 pub emit_form : (items : List (List ℕ)) (kind t u : List ℕ) (more : List (List ℕ)) → items ≡ kind ∷ (t ∷ (u ∷ more)) → IsName kind → ((c : Cell) × IsPair Form c more) → MayStand t → MayStand u
-    → (leaves : Leaves) × ((n : ℤ) × IsEmit Form leaves n items)
-emit_form items kind t u more e n pair h k = (Emit kind (pos 0) pair.0.x pair.0.y, (pos 0, (more, (step_form items kind t u more e n h k, pair.1))))
+    → (end : NamedEnd) × ((n : ℤ) × IsEmit Form end n items)
+emit_form items kind t u more e n pair h k = (Emit kind (pos 0) pair.0.x pair.0.y, (pos 0, (more, (next_kind_form items kind t u more e n h k, pair.1))))
 
-pub emit_shown : (items : List (List ℕ)) (kind t u : List ℕ) (more : List (List ℕ)) → items ≡ kind ∷ (t ∷ (u ∷ more)) → (leaves : Leaves) (n : ℤ) → IsEmit Form leaves n items
+pub emit_shown : (items : List (List ℕ)) (kind t u : List ℕ) (more : List (List ℕ)) → items ≡ kind ∷ (t ∷ (u ∷ more)) → (end : NamedEnd) (n : ℤ) → IsEmit Form end n items
     → ((c : Cell) × IsPair Form c more) × (MayStand t × MayStand u)
 emit_shown items kind t u more e Close n h = absurd h
 emit_shown items kind t u more e (Move k shift) n h = absurd h
 emit_shown items kind t u more e (Emit k shift lane j) n h =
-    let texts = step_texts Form items kind t u more e k shift n h.0 h.1.0 in
-    ((cell lane j, subst (λ (ts : List (List ℕ)). IsPair Form (cell lane j) ts) texts.1.1.1 h.1.1), step_stands items kind t u more e k shift n h.0 h.1.0)
+    let texts = next_kind_texts Form items kind t u more e k shift n h.0 h.1.0 in
+    ((cell lane j, subst (λ (ts : List (List ℕ)). IsPair Form (cell lane j) ts) texts.1.1.1 h.1.1), next_kind_stands items kind t u more e k shift n h.0 h.1.0)
 
-pub emit_numbers : (items : List (List ℕ)) (kind t u : List ℕ) (more : List (List ℕ)) → items ≡ kind ∷ (t ∷ (u ∷ more)) → (leaves : Leaves) (n : ℤ) → IsEmit Numbers leaves n items
+pub emit_numbers : (items : List (List ℕ)) (kind t u : List ℕ) (more : List (List ℕ)) → items ≡ kind ∷ (t ∷ (u ∷ more)) → (end : NamedEnd) (n : ℤ) → IsEmit Numbers end n items
     → ((c : Cell) × IsPair Numbers c more) × ((shift : ℤ) × (IsNumber t shift × IsNumber u n))
 emit_numbers items kind t u more e Close n h = absurd h
 emit_numbers items kind t u more e (Move k shift) n h = absurd h
 emit_numbers items kind t u more e (Emit k shift lane j) n h =
-    let texts = step_texts Numbers items kind t u more e k shift n h.0 h.1.0 in
-    ((cell lane j, subst (λ (ts : List (List ℕ)). IsPair Numbers (cell lane j) ts) texts.1.1.1 h.1.1), (shift, step_numbers items kind t u more e k shift n h.0 h.1.0))
+    let texts = next_kind_texts Numbers items kind t u more e k shift n h.0 h.1.0 in
+    ((cell lane j, subst (λ (ts : List (List ℕ)). IsPair Numbers (cell lane j) ts) texts.1.1.1 h.1.1), (shift, next_kind_numbers items kind t u more e k shift n h.0 h.1.0))
 
 -- ---- what a turn leaves, by its word
 
-pub close_down : (l : Level) (items behind : List (List ℕ)) → items ≡ codes "close" ∷ behind → (leaves : Leaves) (n : ℤ) → IsEnding l leaves n items → IsOneNumber l n behind
+pub close_down : (l : Level) (items behind : List (List ℕ)) → items ≡ codes "close" ∷ behind → (end : NamedEnd) (n : ℤ) → IsEnding l end n items → IsOneNumber l n behind
 close_down l items behind e Close n h = let f = h.1.0 in let same : h.0 ≡ behind = cc in subst (λ (ts : List (List ℕ)). IsOneNumber l n ts) same h.1.1
 close_down l items behind e (Move kind shift) n h = let f = h.1.0 in let word : codes "close" ≡ codes "move" = cc in let sizes = ap length word in absurd (omega arith)
 close_down l items behind e (Emit kind shift lane j) n h = let f = h.1.1.0 in let word : codes "close" ≡ codes "emit" = cc in let sizes = ap length word in absurd (omega arith)
@@ -297,32 +297,32 @@ close_down l items behind e (Emit kind shift lane j) n h = let f = h.1.1.0 in le
 move_emit : codes "move" ≡ codes "emit" → ⊥
 move_emit e = let first = heads 109 101 _ _ e in omega arith
 
-pub move_down : (l : Level) (items behind : List (List ℕ)) → items ≡ codes "move" ∷ behind → (leaves : Leaves) (n : ℤ) → IsEnding l leaves n items → IsMove l leaves n behind
+pub move_down : (l : Level) (items behind : List (List ℕ)) → items ≡ codes "move" ∷ behind → (end : NamedEnd) (n : ℤ) → IsEnding l end n items → IsMove l end n behind
 move_down l items behind e Close n h = let f = h.1.0 in let word : codes "close" ≡ codes "move" = cc in let sizes = ap length word in absurd (omega arith)
-move_down l items behind e (Move kind shift) n h = let f = h.1.0 in let same : h.0 ≡ behind = cc in subst (λ (ts : List (List ℕ)). IsStep l kind shift n ts []) same h.1.1
+move_down l items behind e (Move kind shift) n h = let f = h.1.0 in let same : h.0 ≡ behind = cc in subst (λ (ts : List (List ℕ)). IsNextKind l kind shift n ts []) same h.1.1
 move_down l items behind e (Emit kind shift lane j) n h = let f = h.1.1.0 in absurd (move_emit (cc))
 
-pub move_up : (l : Level) (items behind : List (List ℕ)) → items ≡ codes "move" ∷ behind → (leaves : Leaves) (n : ℤ) → IsMove l leaves n behind → IsEnding l leaves n items
+pub move_up : (l : Level) (items behind : List (List ℕ)) → items ≡ codes "move" ∷ behind → (end : NamedEnd) (n : ℤ) → IsMove l end n behind → IsEnding l end n items
 move_up l items behind e Close n h = absurd h
 move_up l items behind e (Move kind shift) n h = (behind, (e, h))
 move_up l items behind e (Emit kind shift lane j) n h = absurd h
 
-pub emit_down : (l : Level) (items behind : List (List ℕ)) → items ≡ codes "emit" ∷ behind → (leaves : Leaves) (n : ℤ) → IsEnding l leaves n items → IsEmit l leaves n behind
+pub emit_down : (l : Level) (items behind : List (List ℕ)) → items ≡ codes "emit" ∷ behind → (end : NamedEnd) (n : ℤ) → IsEnding l end n items → IsEmit l end n behind
 emit_down l items behind e Close n h = let f = h.1.0 in let word : codes "close" ≡ codes "emit" = cc in let sizes = ap length word in absurd (omega arith)
 emit_down l items behind e (Move kind shift) n h = let f = h.1.0 in absurd (move_emit (cc))
 emit_down l items behind e (Emit kind shift lane j) n h =
     let f = h.1.1.0 in
     let same : h.0 ≡ behind = cc in
-    (h.1.0, (subst (λ (ts : List (List ℕ)). IsStep l kind shift n ts h.1.0) same h.1.1.1.0, h.1.1.1.1))
+    (h.1.0, (subst (λ (ts : List (List ℕ)). IsNextKind l kind shift n ts h.1.0) same h.1.1.1.0, h.1.1.1.1))
 
-pub emit_up : (l : Level) (items behind : List (List ℕ)) → items ≡ codes "emit" ∷ behind → (leaves : Leaves) (n : ℤ) → IsEmit l leaves n behind → IsEnding l leaves n items
+pub emit_up : (l : Level) (items behind : List (List ℕ)) → items ≡ codes "emit" ∷ behind → (end : NamedEnd) (n : ℤ) → IsEmit l end n behind → IsEnding l end n items
 emit_up l items behind e Close n h = absurd h
 emit_up l items behind e (Move kind shift) n h = absurd h
 emit_up l items behind e (Emit kind shift lane j) n h = (behind, (h.0, (e, (h.1.0, h.1.1))))
 
 -- a list that begins with another word says nothing that a turn leaves
 pub no_ending : (l : Level) (items : List (List ℕ)) (word : List ℕ) (behind : List (List ℕ)) → items ≡ word ∷ behind → word ≢ codes "close" → word ≢ codes "move" → word ≢ codes "emit"
-    → (leaves : Leaves) (n : ℤ) → IsEnding l leaves n items → ⊥
+    → (end : NamedEnd) (n : ℤ) → IsEnding l end n items → ⊥
 no_ending l items word behind e a b d Close n h = let f = h.1.0 in a (cc)
 no_ending l items word behind e a b d (Move kind shift) n h = let f = h.1.0 in b (cc)
 no_ending l items word behind e a b d (Emit kind shift lane j) n h = let f = h.1.1.0 in d (cc)

@@ -16,15 +16,15 @@ use Rattle.book_lines.specs.declared.statement.Body.{Body}
 use Rattle.book_lines.specs.declared.statement.Body.TheVariants.{Drawn, TooMany}
 use Rattle.book_lines.specs.declared.statement.Placed.{Placed}
 use Rattle.book_lines.specs.declared.statement.SettingLine.{SettingLine}
-use Rattle.book_lines.specs.declared.statement.Leaves.{Leaves}
-use Rattle.book_lines.specs.declared.statement.Leaves.TheVariants.{Close, Move, Emit}
+use Rattle.book_lines.specs.declared.statement.NamedEnd.{NamedEnd}
+use Rattle.book_lines.specs.declared.statement.NamedEnd.TheVariants.{Close, Move, Emit}
 use Rattle.book_lines.specs.declared.statement.TurnLine.{TurnLine}
 use Rattle.book_lines.specs.declared.statement.SalvoLine.{SalvoLine}
 use Rattle.book_lines.specs.declared.statement.Statement.{Statement}
 use Rattle.book_lines.specs.declared.statement.Statement.TheVariants.{Setting, Hand, Elbow, Start, Turn, Salvo}
 use Rattle.book_lines.specs.Values.{Level, IsNumber, IsNumberAt, AreNumbersAt, Draws, IsBodyAt}
 use Rattle.book_lines.specs.Values.Level.{Form, Numbers, Bodies}
-use Rattle.book_lines.specs.Forms.{IsOneNumber, IsPair, IsSettingLine, IsBody, IsPlacedBody, IsStep, IsEnding, IsTurnLine, IsProduct, IsHand, IsSalvoLine}
+use Rattle.book_lines.specs.Forms.{IsOneNumber, IsPair, IsSettingLine, IsBody, IsPlacedBody, IsNextKind, IsEnding, IsTurnLine, IsProduct, IsHand, IsSalvoLine}
 use Rattle.book_lines.specs.Statements.{ItemsState, StatesAt}
 
 -- numbers of the one level are numbers of the other
@@ -54,8 +54,8 @@ numbers_pass l m f ts zs h = record { each = zip_pass l m f ts zs h.each; some =
 pub setting_pass : (l m : Level) → NumbersPass l m → (s : SettingLine) (items : List (List ℕ)) → IsSettingLine l s items → IsSettingLine m s items
 setting_pass l m f s items h = record { numbers_are = numbers_pass l m f items s.numbers h.numbers_are; count = h.count; order = h.order }
 
-pub step_pass : (l m : Level) → NumbersPass l m → (kind : List ℕ) (shift n : ℤ) (items more : List (List ℕ)) → IsStep l kind shift n items more → IsStep m kind shift n items more
-step_pass l m f kind shift n items more h = record {
+pub next_kind_pass : (l m : Level) → NumbersPass l m → (kind : List ℕ) (shift n : ℤ) (items more : List (List ℕ)) → IsNextKind l kind shift n items more → IsNextKind m kind shift n items more
+next_kind_pass l m f kind shift n items more h = record {
   text_shift = h.text_shift;
   text_n = h.text_n;
   items_are = h.items_are;
@@ -64,11 +64,11 @@ step_pass l m f kind shift n items more h = record {
   number_n = f _ _ h.number_n;
 }
 
-pub ending_pass : (l m : Level) → NumbersPass l m → (leaves : Leaves) (n : ℤ) (items : List (List ℕ)) → IsEnding l leaves n items → IsEnding m leaves n items
+pub ending_pass : (l m : Level) → NumbersPass l m → (end : NamedEnd) (n : ℤ) (items : List (List ℕ)) → IsEnding l end n items → IsEnding m end n items
 ending_pass l m f Close n items h = (h.0, (h.1.0, one_pass l m f n h.0 h.1.1))
-ending_pass l m f (Move kind shift) n items h = (h.0, (h.1.0, step_pass l m f kind shift n h.0 [] h.1.1))
+ending_pass l m f (Move kind shift) n items h = (h.0, (h.1.0, next_kind_pass l m f kind shift n h.0 [] h.1.1))
 ending_pass l m f (Emit kind shift lane j) n items h =
-    (h.0, (h.1.0, (h.1.1.0, (step_pass l m f kind shift n h.0 h.1.0 h.1.1.1.0, pair_pass l m f _ h.1.0 h.1.1.1.1))))
+    (h.0, (h.1.0, (h.1.1.0, (next_kind_pass l m f kind shift n h.0 h.1.0 h.1.1.1.0, pair_pass l m f _ h.1.0 h.1.1.1.1))))
 
 abbrev pub turn_pass : (l m : Level) → NumbersPass l m → (turn : TurnLine) (items : List (List ℕ)) → IsTurnLine l turn items → IsTurnLine m turn items
 turn_pass l m f turn items h = record {
@@ -77,7 +77,7 @@ turn_pass l m f turn items h = record {
   items_are = h.items_are;
   name_is = h.name_is;
   kind_is = h.kind_is;
-  ending_is = ending_pass l m f turn.leaves turn.n h.ending h.ending_is;
+  ending_is = ending_pass l m f turn.end turn.n h.ending h.ending_is;
   delays_are = numbers_pass l m f h.delays turn.delays h.delays_are;
 }
 

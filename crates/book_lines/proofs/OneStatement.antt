@@ -9,8 +9,8 @@ use Rattle.book_lines.specs.declared.statement.Body.{Body}
 use Rattle.book_lines.specs.declared.statement.Body.TheVariants.{Drawn, TooMany}
 use Rattle.book_lines.specs.declared.statement.Placed.{Placed}
 use Rattle.book_lines.specs.declared.statement.SettingLine.{SettingLine}
-use Rattle.book_lines.specs.declared.statement.Leaves.{Leaves}
-use Rattle.book_lines.specs.declared.statement.Leaves.TheVariants.{Close, Move, Emit}
+use Rattle.book_lines.specs.declared.statement.NamedEnd.{NamedEnd}
+use Rattle.book_lines.specs.declared.statement.NamedEnd.TheVariants.{Close, Move, Emit}
 use Rattle.book_lines.specs.declared.statement.ElbowLine.{ElbowLine}
 use Rattle.book_lines.specs.declared.statement.TurnLine.{TurnLine}
 use Rattle.book_lines.specs.declared.statement.SalvoLine.{SalvoLine}
@@ -18,7 +18,7 @@ use Rattle.book_lines.specs.declared.statement.Statement.{Statement}
 use Rattle.book_lines.specs.declared.statement.Statement.TheVariants.{Setting, Hand, Elbow, Start, Turn, Salvo}
 use Rattle.book_lines.specs.Values.{IsNumber, IsBodyAt, AreNumbersAt}
 use Rattle.book_lines.specs.Values.Level.{Form, Numbers, Whole}
-use Rattle.book_lines.specs.Forms.{IsOneNumber, IsPair, IsSettingLine, IsBody, IsPlacedBody, IsElbowLine, IsStep, IsEnding, IsTurnLine, IsProduct, IsHand, IsSalvoLine}
+use Rattle.book_lines.specs.Forms.{IsOneNumber, IsPair, IsSettingLine, IsBody, IsPlacedBody, IsElbowLine, IsNextKind, IsEnding, IsTurnLine, IsProduct, IsHand, IsSalvoLine}
 use Rattle.book_lines.specs.declared.book_word.BookWord.TheVariants as word
 use Rattle.book_lines.specs.Words.{spelling}
 use Rattle.book_lines.specs.WordLaws.{one_keyword}
@@ -94,25 +94,25 @@ one_setting items s t word h k =
     let numbers = same_zs items items s.numbers t.numbers refl h.numbers_are k.numbers_are in
     λ i. record { word = word i; numbers = numbers i }
 
-one_step : (items : List (List ℕ)) (a b : List ℕ) (s t n m : ℤ) (more rest : List (List ℕ)) → IsStep Whole a s n items more → IsStep Whole b t m items rest
+one_next_kind : (items : List (List ℕ)) (a b : List ℕ) (s t n m : ℤ) (more rest : List (List ℕ)) → IsNextKind Whole a s n items more → IsNextKind Whole b t m items rest
     → (a ≡ b) × ((s ≡ t) × ((n ≡ m) × (more ≡ rest)))
-one_step items a b s t n m more rest h k =
+one_next_kind items a b s t n m more rest h k =
     let e = h.items_are in
     let f = k.items_are in
     let c : h.text_shift ≡ k.text_shift = cc in
     let d : h.text_n ≡ k.text_n = cc in
     (cc, (one_read h.text_shift k.text_shift s t c h.number_shift k.number_shift, (one_read h.text_n k.text_n n m d h.number_n k.number_n, cc)))
 
-one_ending : (items : List (List ℕ)) (a b : Leaves) (n m : ℤ) → IsEnding Whole a n items → IsEnding Whole b m items → (a ≡ b) × (n ≡ m)
+one_ending : (items : List (List ℕ)) (a b : NamedEnd) (n m : ℤ) → IsEnding Whole a n items → IsEnding Whole b m items → (a ≡ b) × (n ≡ m)
 one_ending items Close Close n m h k = (refl, one_single h.0 n m h.1.1 (close_down Whole items h.0 h.1.0 Close m k))
 one_ending items (Move a s) (Move b t) n m h k =
-    let r = one_step h.0 a b s t n m [] [] h.1.1 (move_down Whole items h.0 h.1.0 (Move b t) m k) in
+    let r = one_next_kind h.0 a b s t n m [] [] h.1.1 (move_down Whole items h.0 h.1.0 (Move b t) m k) in
     let kind = r.0 in
     let shift = r.1.0 in
     (cc, r.1.1.0)
 one_ending items (Emit a s l j) (Emit b t o q) n m h k =
     let g = emit_down Whole items h.0 h.1.1.0 (Emit b t o q) m k in
-    let r = one_step h.0 a b s t n m h.1.0 g.0 h.1.1.1.0 g.1.0 in
+    let r = one_next_kind h.0 a b s t n m h.1.0 g.0 h.1.1.1.0 g.1.0 in
     let pair = one_pair g.0 (cell l j) (cell o q) (subst (λ (ts : List (List ℕ)). IsPair Whole (cell l j) ts) r.1.1.1 h.1.1.1.1) g.1.1 in
     let kind = r.0 in
     let shift = r.1.0 in
@@ -136,10 +136,10 @@ one_turn : (items : List (List ℕ)) (a b : TurnLine) → IsTurnLine Whole a ite
 one_turn items a b h k =
     let f = turn_pass Whole Form whole_form a items h in
     let g = turn_pass Whole Form whole_form b items k in
-    let p = turn_parts a items b.name b.kind k.ending k.delays f k.items_are (ending_free b.leaves b.n k.ending g.ending_is) in
-    let e = one_ending k.ending a.leaves b.leaves a.n b.n (subst (λ (ts : List (List ℕ)). IsEnding Whole a.leaves a.n ts) p.ending_is h.ending_is) k.ending_is in
+    let p = turn_parts a items b.name b.kind k.ending k.delays f k.items_are (ending_free b.end b.n k.ending g.ending_is) in
+    let e = one_ending k.ending a.end b.end a.n b.n (subst (λ (ts : List (List ℕ)). IsEnding Whole a.end a.n ts) p.ending_is h.ending_is) k.ending_is in
     let zs = same_zs h.delays k.delays a.delays b.delays p.delays_are h.delays_are k.delays_are in
-    λ i. record { name = p.name_is i; kind = p.kind_is i; leaves = e.0 i; n = e.1 i; delays = zs i }
+    λ i. record { name = p.name_is i; kind = p.kind_is i; end = e.0 i; n = e.1 i; delays = zs i }
 
 one_product : (laws : BodyLaws) (items : List (List ℕ)) (a b : Option Placed) → IsProduct Whole a items → IsProduct Whole b items → a ≡ b
 one_product laws items None None h k = refl

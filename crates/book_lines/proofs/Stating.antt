@@ -3,7 +3,7 @@ use Rattle.std.proofs.Common.{◌≡◌, ℕ, ℤ, List, ◌∷◌, ◌++◌, co
 use Rattle.life_cells.specs.declared.cell.Cell.{Cell}
 use Rattle.book_parts.specs.Limits.{IsName}
 use Rattle.book_lines.specs.declared.statement.Placed.{Placed}
-use Rattle.book_lines.specs.declared.statement.Leaves.{Leaves}
+use Rattle.book_lines.specs.declared.statement.NamedEnd.{NamedEnd}
 use Rattle.book_lines.specs.declared.statement.TurnLine.{TurnLine}
 use Rattle.book_lines.specs.declared.statement.SalvoLine.{SalvoLine}
 use Rattle.book_lines.specs.declared.fault.LineFault.TheVariants as fault
@@ -26,29 +26,29 @@ numbers_whole text z h = h
 -- ---- turns
 
 pub turn_stated : (items : List (List ℕ)) (name kind : List ℕ) (ending delays : List (List ℕ)) → IsTurnCut items name kind ending delays
-    → (own other : List ℕ) (leaves : Leaves) (n : ℤ) (zs : List ℤ) → own ≡ name → other ≡ kind → IsEnding Numbers leaves n ending → AreNumbersAt Numbers delays zs
-    → IsTurnLine Whole (record { name = own; kind = other; leaves = leaves; n = n; delays = zs }) items
-turn_stated items name kind ending delays cut own other leaves n zs e f h k = record {
+    → (own other : List ℕ) (end : NamedEnd) (n : ℤ) (zs : List ℤ) → own ≡ name → other ≡ kind → IsEnding Numbers end n ending → AreNumbersAt Numbers delays zs
+    → IsTurnLine Whole (record { name = own; kind = other; end = end; n = n; delays = zs }) items
+turn_stated items name kind ending delays cut own other end n zs e f h k = record {
   ending = ending;
   delays = delays;
   items_are = cut.items_are ∙ (λ i. sym e i ∷ (sym f i ∷ (ending ++ (codes ":" ∷ delays))));
   name_is = subst IsName (sym e) cut.name_is;
   kind_is = subst IsName (sym f) cut.kind_is;
-  ending_is = ending_pass Numbers Whole numbers_whole leaves n ending h;
+  ending_is = ending_pass Numbers Whole numbers_whole end n ending h;
   delays_are = numbers_pass Numbers Whole numbers_whole delays zs k;
 }
 
 -- the parts of a turn's line that is read as far as its numbers
 pub turn_read : (items : List (List ℕ)) (name kind : List ℕ) (ending delays : List (List ℕ)) → IsTurnCut items name kind ending delays → (turn : TurnLine) → IsTurnLine Numbers turn items
-    → IsEnding Numbers turn.leaves turn.n ending × AreNumbersAt Numbers delays turn.delays
+    → IsEnding Numbers turn.end turn.n ending × AreNumbersAt Numbers delays turn.delays
 turn_read items name kind ending delays cut turn h =
     let f = turn_pass Numbers Form numbers_form turn items h in
     let e = cut.ending_is in
     let p = turn_parts turn items name kind ending delays f cut.items_are (ending_free e.0 e.1.0 ending e.1.1) in
-    (subst (λ (ts : List (List ℕ)). IsEnding Numbers turn.leaves turn.n ts) p.ending_is h.ending_is, subst (λ (ts : List (List ℕ)). AreNumbersAt Numbers ts turn.delays) p.delays_are h.delays_are)
+    (subst (λ (ts : List (List ℕ)). IsEnding Numbers turn.end turn.n ts) p.ending_is h.ending_is, subst (λ (ts : List (List ℕ)). AreNumbersAt Numbers ts turn.delays) p.delays_are h.delays_are)
 
 pub turn_unread : (items : List (List ℕ)) (name kind : List ℕ) (ending delays : List (List ℕ)) → IsTurnCut items name kind ending delays
-    → ((turn : TurnLine) → IsEnding Numbers turn.leaves turn.n ending → AreNumbersAt Numbers delays turn.delays → ⊥)
+    → ((turn : TurnLine) → IsEnding Numbers turn.end turn.n ending → AreNumbersAt Numbers delays turn.delays → ⊥)
     → StopsBetween (λ level (turn : TurnLine). IsTurnLine level turn items) Form Numbers
 turn_unread items name kind ending delays cut none =
     let form = turn_formed items name kind ending delays cut in

@@ -4,26 +4,26 @@ use Rattle.life_cells.specs.Cells.{cell}
 use Rattle.life_cells.specs.declared.cell.Cell.{Cell}
 use Rattle.book_parts.specs.Limits.{IsName}
 use Rattle.book_lines.specs.declared.keyword.Keyword.{Keyword}
-use Rattle.book_lines.specs.declared.statement.Leaves.{Leaves}
-use Rattle.book_lines.specs.declared.statement.Leaves.TheVariants.{Move, Emit}
+use Rattle.book_lines.specs.declared.statement.NamedEnd.{NamedEnd}
+use Rattle.book_lines.specs.declared.statement.NamedEnd.TheVariants.{Move, Emit}
 use Rattle.book_lines.specs.declared.statement.Statement.{Statement}
 use Rattle.book_lines.specs.declared.statement.Placed.{Placed}
 use Rattle.book_lines.specs.declared.fault.LineError.{LineError}
 use Rattle.book_lines.specs.declared.fault.LineError.TheVariants.{Fault, Memory}
 use Rattle.book_lines.specs.Values.{Level, AreNumbersAt}
 use Rattle.book_lines.specs.Values.Level.{Form}
-use Rattle.book_lines.specs.Forms.{IsStep, IsPair, IsEnding, IsProduct, IsHand}
+use Rattle.book_lines.specs.Forms.{IsNextKind, IsPair, IsEnding, IsProduct, IsHand}
 use Rattle.book_lines.specs.Statements.{keyword, ItemsState}
 use Rattle.book_lines.specs.Faults.{IsLineFault}
 
 -- `KIND SHIFT N`, and nothing behind
-abbrev pub IsMove : Level → Leaves → ℤ → List (List ℕ) → Type 0
-IsMove level (Move kind shift) n items = IsStep level kind shift n items []
+abbrev pub IsMove : Level → NamedEnd → ℤ → List (List ℕ) → Type 0
+IsMove level (Move kind shift) n items = IsNextKind level kind shift n items []
 IsMove level other n items = ⊥
 
 -- `KIND SHIFT N LANE J`
-abbrev pub IsEmit : Level → Leaves → ℤ → List (List ℕ) → Type 0
-IsEmit level (Emit kind shift lane j) n items = (more : List (List ℕ)) × (IsStep level kind shift n items more × IsPair level (cell lane j) more)
+abbrev pub IsEmit : Level → NamedEnd → ℤ → List (List ℕ) → Type 0
+IsEmit level (Emit kind shift lane j) n items = (more : List (List ℕ)) × (IsNextKind level kind shift n items more × IsPair level (cell lane j) more)
 IsEmit level other n items = ⊥
 
 -- the parts of a turn's line have their forms
@@ -31,7 +31,7 @@ pub record IsTurnCut (items : List (List ℕ)) (name kind : List ℕ) (ending de
   pub items_are : items ≡ name ∷ (kind ∷ (ending ++ (codes ":" ∷ delays)))
   pub name_is : IsName name
   pub kind_is : IsName kind
-  pub ending_is : (leaves : Leaves) × ((n : ℤ) × IsEnding Form leaves n ending)
+  pub ending_is : (end : NamedEnd) × ((n : ℤ) × IsEnding Form end n ending)
   pub delays_are : (zs : List ℤ) × AreNumbersAt Form delays zs
 
 -- the parts of a salvo's line have their forms

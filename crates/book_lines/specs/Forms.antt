@@ -8,8 +8,8 @@ use Rattle.book_parts.specs.Limits.{IsName}
 use Rattle.book_lines.specs.declared.statement.Body.{Body}
 use Rattle.book_lines.specs.declared.statement.Placed.{Placed}
 use Rattle.book_lines.specs.declared.statement.SettingLine.{SettingLine}
-use Rattle.book_lines.specs.declared.statement.Leaves.{Leaves}
-use Rattle.book_lines.specs.declared.statement.Leaves.TheVariants.{Close, Move, Emit}
+use Rattle.book_lines.specs.declared.statement.NamedEnd.{NamedEnd}
+use Rattle.book_lines.specs.declared.statement.NamedEnd.TheVariants.{Close, Move, Emit}
 use Rattle.book_lines.specs.declared.statement.ElbowLine.{ElbowLine}
 use Rattle.book_lines.specs.declared.statement.TurnLine.{TurnLine}
 use Rattle.book_lines.specs.declared.statement.SalvoLine.{SalvoLine}
@@ -74,7 +74,7 @@ pub record IsOneName (name : List ℕ) (items : List (List ℕ)) : Type 0 where
   pub name_is : IsName name
 
 -- `KIND SHIFT N`, and these items follow
-pub record IsStep (level : Level) (kind : List ℕ) (shift n : ℤ) (items more : List (List ℕ)) : Type 0 where
+pub record IsNextKind (level : Level) (kind : List ℕ) (shift n : ℤ) (items more : List (List ℕ)) : Type 0 where
   pub text_shift : List ℕ
   pub text_n : List ℕ
   pub items_are : items ≡ kind ∷ (text_shift ∷ (text_n ∷ more))
@@ -83,11 +83,11 @@ pub record IsStep (level : Level) (kind : List ℕ) (shift n : ℤ) (items more 
   pub number_n : IsNumberAt level text_n n
 
 -- `close N`, `move KIND SHIFT N` or `emit KIND SHIFT N LANE J`
-abbrev pub IsEnding : Level → Leaves → ℤ → List (List ℕ) → Type 0
+abbrev pub IsEnding : Level → NamedEnd → ℤ → List (List ℕ) → Type 0
 IsEnding level Close n items = (behind : List (List ℕ)) × ((items ≡ codes "close" ∷ behind) × IsOneNumber level n behind)
-IsEnding level (Move kind shift) n items = (behind : List (List ℕ)) × ((items ≡ codes "move" ∷ behind) × IsStep level kind shift n behind [])
+IsEnding level (Move kind shift) n items = (behind : List (List ℕ)) × ((items ≡ codes "move" ∷ behind) × IsNextKind level kind shift n behind [])
 IsEnding level (Emit kind shift lane j) n items =
-    (behind : List (List ℕ)) × ((more : List (List ℕ)) × ((items ≡ codes "emit" ∷ behind) × (IsStep level kind shift n behind more × IsPair level (cell lane j) more)))
+    (behind : List (List ℕ)) × ((more : List (List ℕ)) × ((items ≡ codes "emit" ∷ behind) × (IsNextKind level kind shift n behind more × IsPair level (cell lane j) more)))
 
 -- `NAME KIND`, what the turn leaves, `:`, and its delays
 pub record IsTurnLine (level : Level) (turn : TurnLine) (items : List (List ℕ)) : Type 0 where
@@ -96,7 +96,7 @@ pub record IsTurnLine (level : Level) (turn : TurnLine) (items : List (List ℕ)
   pub items_are : items ≡ turn.name ∷ (turn.kind ∷ (ending ++ (codes ":" ∷ delays)))
   pub name_is : IsName turn.name
   pub kind_is : IsName turn.kind
-  pub ending_is : IsEnding level turn.leaves turn.n ending
+  pub ending_is : IsEnding level turn.end turn.n ending
   pub delays_are : AreNumbersAt level delays turn.delays
 
 -- `none`, or `X Y BODY`

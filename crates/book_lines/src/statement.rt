@@ -33,7 +33,7 @@ pub struct SettingLine {
 
 /// What a turn leaves, its kind by name.
 #[derive(Drop)]
-pub enum Leaves {
+pub enum NamedEnd {
     /// Nothing.
     Close,
     /// A kind, shifted by (shift,shift).
@@ -73,7 +73,7 @@ pub struct TurnLine {
     /// The name of the kind that it begins with.
     pub kind: Name,
     /// What it leaves.
-    pub leaves: Leaves,
+    pub end: NamedEnd,
     /// How many generations it takes.
     pub n: i64,
     /// The delays of its gliders, in generations.

@@ -2,7 +2,7 @@
 
 ghost use Rattle.std.specs.Prelude.{◌≡◌, ◌≢◌, codes, ℕ, ◌<◌, ◌^◌, ℤ, List, [], ◌∷◌, ◌↔◌, length, IsTrue, IfOk, IfSome, IfNone};
 ghost use Rattle.book_parts.specs.Limits.{IsName};
-ghost use Rattle.book_lines.specs.declared.statement.Leaves.{Leaves};
+ghost use Rattle.book_lines.specs.declared.statement.NamedEnd.{NamedEnd};
 ghost use Rattle.book_lines.specs.declared.statement.TurnLine.{TurnLine};
 ghost use Rattle.book_lines.specs.Lines.{texts};
 ghost use Rattle.book_lines.specs.Values.{Level};
@@ -14,28 +14,28 @@ use crate::fault::{LineError, LineFault};
 use crate::items::{first, is_word, may_stand, split_colon};
 use crate::name::name;
 use crate::numbers::{are_numbers, is_one_number, is_pair, numbers, one_number, pair, two_numbers};
-use crate::statement::{Leaves, TurnLine};
+use crate::statement::{NamedEnd, TurnLine};
 use book_parts::Name;
 use life_cells::NoMemory;
 use std::alloc::Global;
 
 /// What a turn leaves, and how many generations it takes.
 #[derive(Drop)]
-struct Ending {
-    leaves: Leaves,
+struct TimedEnd {
+    end: NamedEnd,
     n: i64,
 }
 
 /// `KIND SHIFT N`, and the items behind.
 #[derive(Clone, Copy)]
-struct StepItems<'a, 'b> {
+struct NextKindItems<'a, 'b> {
     kind: &'a str,
     shift: &'a [u8],
     n: &'a [u8],
     more: &'b [&'a [u8]],
 }
 
-impl StepItems<'_, '_> {
+impl NextKindItems<'_, '_> {
     /// Whether its texts may stand for numbers.
     fn may_stand(self) -> bool
         ensures { IsTrue result ↔ ((self.entry.shift.now ≢ codes ":") × (self.entry.n.now ≢ codes ":")) }
@@ -67,11 +67,11 @@ pub fn turn(alloc: Global, items: &[&[u8]]) -> Result<TurnLine, LineError>
     let Some(delays) = numbers(alloc, parts.delays)? else {
         return Err(LineError::Fault(LineFault::Number));
     };
-    let Ending { leaves, n } = ending;
+    let TimedEnd { end, n } = ending;
     Ok(TurnLine {
         name: Name::from_text(alloc, parts.name)?,
         kind: Name::from_text(alloc, parts.kind)?,
-        leaves,
+        end,
         n,
         delays,
     })
@@ -103,7 +103,7 @@ fn turn_items<'a, 'b>(items: &'b [&'a [u8]]) -> Option<TurnItems<'a, 'b>>
 
 /// Whether these items have the form of what a turn leaves.
 fn is_ending(items: &[&[u8]]) -> bool
-    ensures { IsTrue result ↔ ((leaves : Leaves) × ((n : ℤ) × IsEnding Level.Form leaves n (texts items.now))) }
+    ensures { IsTrue result ↔ ((end : NamedEnd) × ((n : ℤ) × IsEnding Level.Form end n (texts items.now))) }
 {
     let Some((word, behind)) = first(items) else {
         return false;
@@ -121,8 +121,8 @@ fn is_ending(items: &[&[u8]]) -> bool
 }
 
 /// What these items say that a turn leaves.
-fn ending_of(alloc: Global, items: &[&[u8]]) -> Result<Option<Ending>, NoMemory>
-    ensures { IfOk result (λ o. Reads (λ e. IsEnding Level.Numbers e.leaves e.n (texts items.now)) o) }
+fn ending_of(alloc: Global, items: &[&[u8]]) -> Result<Option<TimedEnd>, NoMemory>
+    ensures { IfOk result (λ o. Reads (λ e. IsEnding Level.Numbers e.end e.n (texts items.now)) o) }
 {
     let Some((word, behind)) = first(items) else {
         return Ok(None);
@@ -131,8 +131,8 @@ fn ending_of(alloc: Global, items: &[&[u8]]) -> Result<Option<Ending>, NoMemory>
         let Some(n) = one_number(behind) else {
             return Ok(None);
         };
-        let leaves = Leaves::Close;
-        return Ok(Some(Ending { leaves, n }));
+        let end = NamedEnd::Close;
+        return Ok(Some(TimedEnd { end, n }));
     }
     if is_word(word, "move") {
         return move_ending(alloc, behind);
@@ -144,7 +144,7 @@ fn ending_of(alloc: Global, items: &[&[u8]]) -> Result<Option<Ending>, NoMemory>
 }
 
 /// `KIND SHIFT N`, and the items behind.
-fn step_items<'a, 'b>(items: &'b [&'a [u8]]) -> Option<StepItems<'a, 'b>>
+fn next_kind_items<'a, 'b>(items: &'b [&'a [u8]]) -> Option<NextKindItems<'a, 'b>>
     ensures some { IfSome result (λ s. (texts items.now ≡ s.kind.now ∷ (s.shift.now ∷ (s.n.now ∷ texts s.more.now))) × IsName s.kind.now) }
     ensures none { IfNone result ((kind shift n : List ℕ) (more : List (List ℕ)) → texts items.now ≡ kind ∷ (shift ∷ (n ∷ more)) → IsName kind → ⊥) }
 {
@@ -152,7 +152,7 @@ fn step_items<'a, 'b>(items: &'b [&'a [u8]]) -> Option<StepItems<'a, 'b>>
     let (shift, behind) = first(behind)?;
     let (n, more) = first(behind)?;
     let kind = name(kind)?;
-    Some(StepItems {
+    Some(NextKindItems {
         kind,
         shift,
         n,
@@ -162,61 +162,61 @@ fn step_items<'a, 'b>(items: &'b [&'a [u8]]) -> Option<StepItems<'a, 'b>>
 
 /// Whether these items have the form `KIND SHIFT N`.
 fn is_move(items: &[&[u8]]) -> bool
-    ensures { IsTrue result ↔ ((leaves : Leaves) × ((n : ℤ) × IsMove Level.Form leaves n (texts items.now))) }
+    ensures { IsTrue result ↔ ((end : NamedEnd) × ((n : ℤ) × IsMove Level.Form end n (texts items.now))) }
 {
-    match step_items(items) {
-        Some(step) => step.more.is_empty() && step.may_stand(),
+    match next_kind_items(items) {
+        Some(next) => next.more.is_empty() && next.may_stand(),
         None => false,
     }
 }
 
 /// Whether these items have the form `KIND SHIFT N LANE J`.
 fn is_emit(items: &[&[u8]]) -> bool
-    ensures { IsTrue result ↔ ((leaves : Leaves) × ((n : ℤ) × IsEmit Level.Form leaves n (texts items.now))) }
+    ensures { IsTrue result ↔ ((end : NamedEnd) × ((n : ℤ) × IsEmit Level.Form end n (texts items.now))) }
 {
-    match step_items(items) {
-        Some(step) => is_pair(step.more) && step.may_stand(),
+    match next_kind_items(items) {
+        Some(next) => is_pair(next.more) && next.may_stand(),
         None => false,
     }
 }
 
 /// The move that `KIND SHIFT N` say.
-fn move_ending(alloc: Global, items: &[&[u8]]) -> Result<Option<Ending>, NoMemory>
-    ensures { IfOk result (λ o. Reads (λ e. IsMove Level.Numbers e.leaves e.n (texts items.now)) o) }
+fn move_ending(alloc: Global, items: &[&[u8]]) -> Result<Option<TimedEnd>, NoMemory>
+    ensures { IfOk result (λ o. Reads (λ e. IsMove Level.Numbers e.end e.n (texts items.now)) o) }
 {
-    let Some(step) = step_items(items) else {
+    let Some(next) = next_kind_items(items) else {
         return Ok(None);
     };
-    if !step.more.is_empty() {
+    if !next.more.is_empty() {
         return Ok(None);
     }
-    let Some((shift, n)) = two_numbers(step.shift, step.n) else {
+    let Some((shift, n)) = two_numbers(next.shift, next.n) else {
         return Ok(None);
     };
-    let kind = Name::from_text(alloc, step.kind)?;
-    let leaves = Leaves::Move { kind, shift };
-    Ok(Some(Ending { leaves, n }))
+    let kind = Name::from_text(alloc, next.kind)?;
+    let end = NamedEnd::Move { kind, shift };
+    Ok(Some(TimedEnd { end, n }))
 }
 
 /// The move and the thrown glider that `KIND SHIFT N LANE J` say.
-fn emit_ending(alloc: Global, items: &[&[u8]]) -> Result<Option<Ending>, NoMemory>
-    ensures { IfOk result (λ o. Reads (λ e. IsEmit Level.Numbers e.leaves e.n (texts items.now)) o) }
+fn emit_ending(alloc: Global, items: &[&[u8]]) -> Result<Option<TimedEnd>, NoMemory>
+    ensures { IfOk result (λ o. Reads (λ e. IsEmit Level.Numbers e.end e.n (texts items.now)) o) }
 {
-    let Some(step) = step_items(items) else {
+    let Some(next) = next_kind_items(items) else {
         return Ok(None);
     };
-    let Some((shift, n)) = two_numbers(step.shift, step.n) else {
+    let Some((shift, n)) = two_numbers(next.shift, next.n) else {
         return Ok(None);
     };
-    let Some(glider) = pair(step.more) else {
+    let Some(glider) = pair(next.more) else {
         return Ok(None);
     };
-    let kind = Name::from_text(alloc, step.kind)?;
-    let leaves = Leaves::Emit {
+    let kind = Name::from_text(alloc, next.kind)?;
+    let end = NamedEnd::Emit {
         kind,
         shift,
         lane: glider.x,
         j: glider.y,
     };
-    Ok(Some(Ending { leaves, n }))
+    Ok(Some(TimedEnd { end, n }))
 }

@@ -24,6 +24,9 @@ pub const MOST_LANES: u64 = 64;
 /// The most bytes of a name.
 pub const LONGEST_NAME: usize = 32;
 
+/// The most elbow states.
+pub const MOST_STATES: u64 = 1 << 22;
+
 /// The most gliders of a stream.
 pub const MOST_GLIDERS: u64 = 1 << 20;
 

@@ -22,8 +22,8 @@ use Rattle.book_lines.specs.declared.statement.Body.{Body}
 use Rattle.book_lines.specs.declared.statement.Body.TheVariants.{Drawn, TooMany}
 use Rattle.book_lines.specs.declared.statement.Placed.{Placed}
 use Rattle.book_lines.specs.declared.statement.ElbowLine.{ElbowLine}
-use Rattle.book_lines.specs.declared.statement.Leaves.{Leaves}
-use Rattle.book_lines.specs.declared.statement.Leaves.TheVariants.{Close, Move, Emit}
+use Rattle.book_lines.specs.declared.statement.NamedEnd.{NamedEnd}
+use Rattle.book_lines.specs.declared.statement.NamedEnd.TheVariants.{Close, Move, Emit}
 use Rattle.book_lines.specs.declared.statement.TurnLine.{TurnLine}
 use Rattle.book_lines.specs.declared.statement.SalvoLine.{SalvoLine}
 use Rattle.book_lines.specs.declared.book_word.BookWord.{BookWord}
@@ -37,8 +37,8 @@ use Rattle.book_lines.specs.Counts.{cell_count}
 use Rattle.book_lines.specs.declared.limit.Limit.{Limit}
 use Rattle.book_read.specs.Names.{number_from, number_of, known_number}
 use Rattle.book_read.specs.Stated.{cells_of, kind_of, end_of, turn_of, product_of, salvo_of}
-use Rattle.book_read.specs.Limited.{cell_numbers, body_numbers, leaves_numbers, product_numbers, place_numbers, stated_cells, hand_count}
-use Rattle.book_read.specs.Joining.{IsNew, KnowsKinds, kind_names, entry_names, kinds_left}
+use Rattle.book_read.specs.Limited.{cell_numbers, body_numbers, end_numbers, product_numbers, place_numbers, stated_cells, hand_count}
+use Rattle.book_read.specs.Joining.{IsNew, KnowsKinds, kind_names, entry_names, kinds_of_end}
 use Rattle.book_read.specs.Book.{Said, whole, Says}
 use Rattle.book_read.proofs.Counted.{behind_none, few, cells_counted, product_counted}
 use Rattle.std.specs.List.{AllByRecursion}
@@ -292,8 +292,8 @@ zip_length R [] (v ∷ vs) h = absurd h
 zip_length R (t ∷ ts) [] h = absurd h
 zip_length R (t ∷ ts) (v ∷ vs) h = let e = zip_length R ts vs h.1 in omega arith
 
-end_proper : (kinds : List RawKind) (leaves : Leaves) (n : ℤ) → AllByRecursion (λ name. IsSome (number_of kinds name)) (kinds_left leaves) → IsFirstOutside (leaves_numbers leaves n) None
-    → IsProperEnd (length kinds) (end_of kinds leaves) × (nat_abs n ≤ LONGEST_TURN)
+end_proper : (kinds : List RawKind) (end : NamedEnd) (n : ℤ) → AllByRecursion (λ name. IsSome (number_of kinds name)) (kinds_of_end end) → IsFirstOutside (end_numbers end n) None
+    → IsProperEnd (length kinds) (end_of kinds end) × (nat_abs n ≤ LONGEST_TURN)
 end_proper kinds Close n known h = (tt, any_length n LONGEST_TURN (first_within (held limit.Time n) [] h).0)
 end_proper kinds (Move kind shift) n known h =
     let a = first_within (held limit.Coordinate shift) (held limit.Time n ∷ []) h in
@@ -309,8 +309,8 @@ turn_proper : (stated : Stated) (line : List ℕ) (turn : TurnLine) → States l
 turn_proper stated line turn says known over =
     let is = says.items_are in
     let f = front_none (numbers (Turn turn)) (counts stated (Turn turn)) over in
-    let leaves = end_proper stated.kinds turn.leaves turn.n known.1 (front_none (leaves_numbers turn.leaves turn.n) (map (held limit.Delay) turn.delays) f) in
-    let delays = behind_none (leaves_numbers turn.leaves turn.n) (map (held limit.Delay) turn.delays) f in
+    let leaves = end_proper stated.kinds turn.end turn.n known.1 (front_none (end_numbers turn.end turn.n) (map (held limit.Delay) turn.delays) f) in
+    let delays = behind_none (end_numbers turn.end turn.n) (map (held limit.Delay) turn.delays) f in
     let same = zip_length (IsNumberAt Level.Whole) is.delays turn.delays is.delays_are.each in
     let some = is.delays_are.some in
     record {

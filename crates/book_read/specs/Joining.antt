@@ -6,8 +6,8 @@ use Rattle.book_parts.specs.Proper.{IsNoneOf}
 use Rattle.book_parts.specs.declared.kind.RawKind.{RawKind}
 use Rattle.book_parts.specs.declared.turn.RawTurn.{RawTurn}
 use Rattle.book_parts.specs.declared.salvo.RawSalvo.{RawSalvo}
-use Rattle.book_lines.specs.declared.statement.Leaves.{Leaves}
-use Rattle.book_lines.specs.declared.statement.Leaves.TheVariants.{Close, Move, Emit}
+use Rattle.book_lines.specs.declared.statement.NamedEnd.{NamedEnd}
+use Rattle.book_lines.specs.declared.statement.NamedEnd.TheVariants.{Close, Move, Emit}
 use Rattle.book_lines.specs.declared.statement.Statement.{Statement}
 use Rattle.book_lines.specs.declared.statement.Statement.TheVariants.{Setting, Hand, Elbow, Start, Turn, Salvo}
 use Rattle.book_lines.specs.Statements.{States}
@@ -31,15 +31,15 @@ IsNew stated (Start name) = stated.start ≡ None
 IsNew stated (Turn turn) = IsNoneOf (entry_names stated) turn.name
 IsNew stated (Salvo salvo) = IsNoneOf (entry_names stated) salvo.name
 
-abbrev pub kinds_left : Leaves → List (List ℕ)
-kinds_left Close = []
-kinds_left (Move kind shift) = kind ∷ []
-kinds_left (Emit kind shift lane j) = kind ∷ []
+abbrev pub kinds_of_end : NamedEnd → List (List ℕ)
+kinds_of_end Close = []
+kinds_of_end (Move kind shift) = kind ∷ []
+kinds_of_end (Emit kind shift lane j) = kind ∷ []
 
 -- the kinds that a line names
 abbrev pub kinds_named : Statement → List (List ℕ)
 kinds_named (Start name) = name ∷ []
-kinds_named (Turn turn) = turn.kind ∷ kinds_left turn.leaves
+kinds_named (Turn turn) = turn.kind ∷ kinds_of_end turn.end
 kinds_named other = []
 
 -- each kind that a line names is defined before it

@@ -11,8 +11,8 @@ use Rattle.book_lines.specs.declared.statement.Body.{Body}
 use Rattle.book_lines.specs.declared.statement.Body.TheVariants.{Drawn, TooMany}
 use Rattle.book_lines.specs.declared.statement.SettingLine.{SettingLine}
 use Rattle.book_lines.specs.declared.statement.Placed.{Placed}
-use Rattle.book_lines.specs.declared.statement.Leaves.{Leaves}
-use Rattle.book_lines.specs.declared.statement.Leaves.TheVariants.{Close, Move, Emit}
+use Rattle.book_lines.specs.declared.statement.NamedEnd.{NamedEnd}
+use Rattle.book_lines.specs.declared.statement.NamedEnd.TheVariants.{Close, Move, Emit}
 use Rattle.book_lines.specs.declared.statement.Statement.{Statement}
 use Rattle.book_lines.specs.declared.statement.Statement.TheVariants.{Setting, Hand, Elbow, Start, Turn, Salvo}
 use Rattle.book_lines.specs.Limits.{IsWithin, limits}
@@ -44,10 +44,10 @@ body_numbers (TooMany count) = []
 abbrev pub placed_numbers : Placed → List Limited
 placed_numbers placed = cell_numbers placed.at ++ body_numbers placed.body
 
-abbrev pub leaves_numbers : Leaves → ℤ → List Limited
-leaves_numbers Close n = held limit.Time n ∷ []
-leaves_numbers (Move kind shift) n = held limit.Coordinate shift ∷ (held limit.Time n ∷ [])
-leaves_numbers (Emit kind shift lane j) n = held limit.Coordinate shift ∷ (held limit.Time n ∷ (held limit.Coordinate lane ∷ (held limit.Index j ∷ [])))
+abbrev pub end_numbers : NamedEnd → ℤ → List Limited
+end_numbers Close n = held limit.Time n ∷ []
+end_numbers (Move kind shift) n = held limit.Coordinate shift ∷ (held limit.Time n ∷ [])
+end_numbers (Emit kind shift lane j) n = held limit.Coordinate shift ∷ (held limit.Time n ∷ (held limit.Coordinate lane ∷ (held limit.Index j ∷ [])))
 
 abbrev pub product_numbers : Option Placed → List Limited
 product_numbers None = []
@@ -63,7 +63,7 @@ numbers (Setting setting) = setting_limited setting
 numbers (Hand body) = body_numbers body
 numbers (Elbow elbow) = placed_numbers elbow.placed
 numbers (Start name) = []
-numbers (Turn turn) = leaves_numbers turn.leaves turn.n ++ map (held limit.Delay) turn.delays
+numbers (Turn turn) = end_numbers turn.end turn.n ++ map (held limit.Delay) turn.delays
 numbers (Salvo salvo) = map (held limit.Coordinate) salvo.lanes ++ (product_numbers salvo.product ++ place_numbers salvo.hand)
 
 abbrev pub hand_count : Option Cells → ℕ

@@ -18,8 +18,8 @@ use Rattle.book_lines.specs.contracts.book_word.BookWord.{the_type}
 use Rattle.book_lines.specs.declared.statement.Body.{Body}
 use Rattle.book_lines.specs.declared.statement.Body.TheVariants.{Drawn, TooMany}
 use Rattle.book_lines.specs.declared.statement.Placed.{Placed}
-use Rattle.book_lines.specs.declared.statement.Leaves.{Leaves}
-use Rattle.book_lines.specs.declared.statement.Leaves.TheVariants.{Close, Move, Emit}
+use Rattle.book_lines.specs.declared.statement.NamedEnd.{NamedEnd}
+use Rattle.book_lines.specs.declared.statement.NamedEnd.TheVariants.{Close, Move, Emit}
 use Rattle.book_lines.specs.declared.statement.ElbowLine.{ElbowLine}
 use Rattle.book_lines.specs.declared.statement.TurnLine.{TurnLine}
 use Rattle.book_lines.specs.declared.statement.SalvoLine.{SalvoLine}
@@ -76,7 +76,7 @@ abbrev pub kind_of : ElbowLine → RawKind
 kind_of elbow = record { name = elbow.name; cells = cells_of elbow.placed.body }
 
 -- what a turn leaves, kinds by their numbers
-abbrev pub end_of : List RawKind → Leaves → TurnEnd
+abbrev pub end_of : List RawKind → NamedEnd → TurnEnd
 end_of kinds Close = ending.Close
 end_of kinds (Move kind shift) = ending.Move (known_number kinds kind) shift
 end_of kinds (Emit kind shift lane j) = ending.Emit (known_number kinds kind) shift lane j
@@ -85,7 +85,7 @@ abbrev pub turn_of : List RawKind → TurnLine → RawTurn
 turn_of kinds turn = record {
   name = turn.name;
   kind = known_number kinds turn.kind;
-  end = end_of kinds turn.leaves;
+  end = end_of kinds turn.end;
   n = nat_abs turn.n;
   delays = turn.delays;
 }

@@ -11,7 +11,7 @@ ghost use Rattle.book_read.specs.Reading.{IsMissing};
 ghost use Rattle.book_read.specs.Drafted.{numbers_of, stated_of, IsKept};
 ghost use Rattle.book_parts.specs.Limits.{IsFrom};
 
-use book_lines::{Body, BookWord, ElbowLine, Leaves, Placed, SettingLine, Statement, TurnLine};
+use book_lines::{Body, BookWord, ElbowLine, NamedEnd, Placed, SettingLine, Statement, TurnLine};
 use book_parts::limits::LONGEST_TURN;
 use book_parts::{RawKind, RawSalvo, RawTurn, TurnEnd};
 use life_cells::{CellSet, NoMemory};
@@ -159,7 +159,7 @@ fn turn_of(kinds: &[RawKind], turn: TurnLine) -> RawTurn
 {
     RawTurn {
         kind: known_number(kinds, turn.kind.text()),
-        end: end_of(kinds, &turn.leaves),
+        end: end_of(kinds, &turn.end),
         name: turn.name,
         n: turn.n as u32,
         delays: turn.delays,
@@ -167,16 +167,16 @@ fn turn_of(kinds: &[RawKind], turn: TurnLine) -> RawTurn
 }
 
 /// What a turn leaves, kinds by their numbers.
-fn end_of(kinds: &[RawKind], leaves: &Leaves) -> TurnEnd
-    ensures { result ≡ end_of kinds.now leaves.now }
+fn end_of(kinds: &[RawKind], end: &NamedEnd) -> TurnEnd
+    ensures { result ≡ end_of kinds.now end.now }
 {
-    match leaves {
-        Leaves::Close => TurnEnd::Close,
-        Leaves::Move { kind, shift } => TurnEnd::Move {
+    match end {
+        NamedEnd::Close => TurnEnd::Close,
+        NamedEnd::Move { kind, shift } => TurnEnd::Move {
             kind: known_number(kinds, kind.text()),
             shift: *shift,
         },
-        Leaves::Emit {
+        NamedEnd::Emit {
             kind,
             shift,
             lane,

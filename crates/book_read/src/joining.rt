@@ -6,14 +6,14 @@ ghost use Rattle.book_read.specs.Names.{number_of};
 ghost use Rattle.book_parts.specs.Proper.{IsNoneOf};
 ghost use Rattle.book_lines.specs.Counts.{HasSmallCounts};
 ghost use Rattle.book_read.specs.Limited.{IsOver};
-ghost use Rattle.book_read.specs.Joining.{IsNew, KnowsKinds, entry_names, kinds_left};
+ghost use Rattle.book_read.specs.Joining.{IsNew, KnowsKinds, entry_names, kinds_of_end};
 ghost use Rattle.book_read.specs.Drafted.{stated_of, IsKept};
 
 use crate::counting::count_outside;
 use crate::draft::{Draft, number_of};
 use crate::named::is_new_name;
 use crate::outside::number_outside;
-use book_lines::{Leaves, Statement};
+use book_lines::{NamedEnd, Statement};
 use book_parts::RawKind;
 
 /// Whether a statement's setting, or the name of its entry, does not come again.
@@ -37,7 +37,7 @@ pub fn knows_kinds(draft: &Draft, statement: &Statement) -> bool
     match statement {
         Statement::Start(name) => is_known(&draft.kinds, name.text()),
         Statement::Turn(turn) => {
-            is_known(&draft.kinds, turn.kind.text()) && knows_left(&draft.kinds, &turn.leaves)
+            is_known(&draft.kinds, turn.kind.text()) && knows_end(&draft.kinds, &turn.end)
         }
         _ => true,
     }
@@ -69,11 +69,11 @@ fn is_known(kinds: &[RawKind], name: &str) -> bool
 }
 
 /// Whether the kind that a turn leaves, if any, is known.
-fn knows_left(kinds: &[RawKind], leaves: &Leaves) -> bool
-    ensures { IsTrue result ↔ AllByRecursion (λ name. IsSome (number_of kinds.now name)) (kinds_left leaves.now) }
+fn knows_end(kinds: &[RawKind], end: &NamedEnd) -> bool
+    ensures { IsTrue result ↔ AllByRecursion (λ name. IsSome (number_of kinds.now name)) (kinds_of_end end.now) }
 {
-    match leaves {
-        Leaves::Close => true,
-        Leaves::Move { kind, .. } | Leaves::Emit { kind, .. } => is_known(kinds, kind.text()),
+    match end {
+        NamedEnd::Close => true,
+        NamedEnd::Move { kind, .. } | NamedEnd::Emit { kind, .. } => is_known(kinds, kind.text()),
     }
 }

@@ -2,9 +2,9 @@
 
 ghost use Rattle.std.specs.Prelude.{◌≡◌, ℤ, [], ◌∷◌, ◌++◌, map, flat_map};
 ghost use Rattle.life_cells.specs.Cells.{in_order};
-ghost use Rattle.book_read.specs.Limited.{held, setting_limited, cell_numbers, body_numbers, placed_numbers, leaves_numbers, product_numbers, place_numbers, numbers, IsFirstOutside};
+ghost use Rattle.book_read.specs.Limited.{held, setting_limited, cell_numbers, body_numbers, placed_numbers, end_numbers, product_numbers, place_numbers, numbers, IsFirstOutside};
 
-use book_lines::{Body, Leaves, Limit, Placed, SalvoLine, SettingLine, Statement, TurnLine};
+use book_lines::{Body, NamedEnd, Limit, Placed, SalvoLine, SettingLine, Statement, TurnLine};
 use life_cells::{Cell, CellSet};
 
 /// The first number of a statement that is outside its limits.
@@ -90,14 +90,14 @@ fn placed_outside(placed: &Placed) -> Option<i64>
     cell_outside(placed.at).or(body_outside(&placed.body))
 }
 
-fn leaves_outside(leaves: &Leaves, n: i64) -> Option<i64>
-    ensures { IsFirstOutside (leaves_numbers leaves.now n) result }
+fn end_outside(end: &NamedEnd, n: i64) -> Option<i64>
+    ensures { IsFirstOutside (end_numbers end.now n) result }
 {
     let time = outside(Limit::Time, n);
-    match leaves {
-        Leaves::Close => time,
-        Leaves::Move { shift, .. } => outside(Limit::Coordinate, *shift).or(time),
-        Leaves::Emit { shift, lane, j, .. } => {
+    match end {
+        NamedEnd::Close => time,
+        NamedEnd::Move { shift, .. } => outside(Limit::Coordinate, *shift).or(time),
+        NamedEnd::Emit { shift, lane, j, .. } => {
             let before = outside(Limit::Coordinate, *shift).or(time);
             let glider = outside(Limit::Coordinate, *lane).or(outside(Limit::Index, *j));
             before.or(glider)
@@ -106,11 +106,11 @@ fn leaves_outside(leaves: &Leaves, n: i64) -> Option<i64>
 }
 
 fn turn_outside(turn: &TurnLine) -> Option<i64>
-    ensures { IsFirstOutside (leaves_numbers turn.now.leaves turn.now.n ++ map (held Limit.Delay) turn.now.delays) result }
+    ensures { IsFirstOutside (end_numbers turn.now.end turn.now.n ++ map (held Limit.Delay) turn.now.delays) result }
 {
-    let leaves = leaves_outside(&turn.leaves, turn.n);
+    let end = end_outside(&turn.end, turn.n);
     let delays = numbers_outside(Limit::Delay, turn.delays.items());
-    leaves.or(delays)
+    end.or(delays)
 }
 
 fn product_outside(product: &Option<Placed>) -> Option<i64>

@@ -30,9 +30,9 @@ use Rattle.book_parts.specs.declared.settings.Range.{Range}
 use Rattle.std.specs.Map.{update}
 use denote.Enum.Bare.{sameb}
 use Rattle.book_read.specs.Stated.{Stated, nothing_stated, coordinates, range_numbers, setting_numbers, joined, end_of, turn_of, salvo_of}
-use Rattle.book_read.specs.Limited.{held, setting_limited, leaves_numbers, place_numbers, product_numbers, IsOver, stated_cells}
+use Rattle.book_read.specs.Limited.{held, setting_limited, end_numbers, place_numbers, product_numbers, IsOver, stated_cells}
 use Rattle.book_read.specs.Names.{number_of}
-use Rattle.book_read.specs.Joining.{IsNew, KnowsKinds, kinds_left}
+use Rattle.book_read.specs.Joining.{IsNew, KnowsKinds, kinds_of_end}
 use Rattle.book_read.specs.Reading.{AreFine}
 use Rattle.book_read.specs.Book.{Says}
 use Rattle.book_write.specs.Laid.{line_of}
@@ -42,7 +42,7 @@ use Rattle.book_write.proofs.Visible.{IsWord}
 use Rattle.book_write.proofs.Splitting.{words_are, lines_are}
 use Rattle.book_write.proofs.Numerals.{IsShort, short_from}
 use Rattle.book_write.proofs.Within.{IsHeld, AreFew, not_over, each_held, body_held}
-use Rattle.book_write.proofs.Stating.{IsLineFor, AreWritable, setting_line_for, range_order, short_coordinate, hand_line, elbow_of, kind_line, start_line, leaves_of, turn_told, HasNext, turn_line, salvo_told, salvo_line}
+use Rattle.book_write.proofs.Stating.{IsLineFor, AreWritable, setting_line_for, range_order, short_coordinate, hand_line, elbow_of, kind_line, start_line, named_end_of, turn_told, HasNext, turn_line, salvo_told, salvo_line}
 use Rattle.book_write.proofs.Distinct.{none_before, kind_known, name_of_kind}
 use Rattle.life_plane.specs.ListLaws.{all_append}
 use Rattle.book_parts.specs.declared.limits.TheConstants.{MOST_CELLS, MOST_LANES, MOST_GAPS, LONGEST_TURN, LEAST_APPROACH, GREATEST_APPROACH, GREATEST_WALL, GREATEST_REACH, GREATEST_ROOM, GREATEST_SPAN}
@@ -207,12 +207,12 @@ next_named kinds ending.Close p each = tt
 next_named kinds (ending.Move kind shift) p each = name_of_kind kinds kind p.0 each
 next_named kinds (ending.Emit kind shift lane j) p each = name_of_kind kinds kind p.0 each
 
-next_known : (kinds : List RawKind) (end : TurnEnd) → IsProperEnd (length kinds) end → AreDistinct (map (λ (k : RawKind). k.name) kinds) → AllByRecursion (λ name. IsSome (number_of kinds name)) (kinds_left (leaves_of kinds end))
+next_known : (kinds : List RawKind) (end : TurnEnd) → IsProperEnd (length kinds) end → AreDistinct (map (λ (k : RawKind). k.name) kinds) → AllByRecursion (λ name. IsSome (number_of kinds name)) (kinds_of_end (named_end_of kinds end))
 next_known kinds ending.Close p d = tt
 next_known kinds (ending.Move kind shift) p d = ((kind_known kinds kind p.0 d).known, tt)
 next_known kinds (ending.Emit kind shift lane j) p d = ((kind_known kinds kind p.0 d).known, tt)
 
-end_back : (kinds : List RawKind) (end : TurnEnd) → IsProperEnd (length kinds) end → AreDistinct (map (λ (k : RawKind). k.name) kinds) → end_of kinds (leaves_of kinds end) ≡ end
+end_back : (kinds : List RawKind) (end : TurnEnd) → IsProperEnd (length kinds) end → AreDistinct (map (λ (k : RawKind). k.name) kinds) → end_of kinds (named_end_of kinds end) ≡ end
 end_back kinds ending.Close p d = refl
 end_back kinds (ending.Move kind shift) p d = ap (λ (k : ℕ). ending.Move k shift) (kind_known kinds kind p.0 d).number
 end_back kinds (ending.Emit kind shift lane j) p d = ap (λ (k : ℕ). ending.Emit k shift lane j) (kind_known kinds kind p.0 d).number
@@ -223,7 +223,7 @@ turn_back kinds turn p d =
     let end = end_back kinds turn.end p.leaves d in
     λ i. record { name = turn.name; kind = kind i; end = end i; n = turn.n; delays = turn.delays }
 
-ending_held : (kinds : List RawKind) (end : TurnEnd) (n : ℕ) → IsProperEnd (length kinds) end → n ≤ LONGEST_TURN → AllByRecursion IsHeld (leaves_numbers (leaves_of kinds end) (pos n))
+ending_held : (kinds : List RawKind) (end : TurnEnd) (n : ℕ) → IsProperEnd (length kinds) end → n ≤ LONGEST_TURN → AllByRecursion IsHeld (end_numbers (named_end_of kinds end) (pos n))
 ending_held kinds ending.Close n p h = (len_held 0 LONGEST_TURN n (omega arith) h, tt)
 ending_held kinds (ending.Move kind shift) n p h = (p.1, (len_held 0 LONGEST_TURN n (omega arith) h, tt))
 ending_held kinds (ending.Emit kind shift lane j) n p h = (p.1.0, (len_held 0 LONGEST_TURN n (omega arith) h, (p.1.1.0, (p.1.1.1, tt))))
@@ -247,7 +247,7 @@ turns_fine book p front (turn ∷ back) e h =
     line_first a _ (turn_words kinds turn) s (map (turn_words kinds) back) (turn_line kinds turn h.0 (name_of_kind kinds turn.kind h.0.kind p.kinds) (next_named kinds turn.end h.0.leaves p.kinds))
     (subst (λ (ns : List (List ℕ)). IsNoneOf ns turn.name) (sym (append-nil (map name front))) new)
     ((kind_known kinds turn.kind h.0.kind p.kind_names).known, next_known kinds turn.end h.0.leaves p.kind_names)
-    (not_over a s (all_append IsHeld (leaves_numbers (leaves_of kinds turn.end) (pos turn.n)) (map (held limit.Delay) turn.delays) (ending_held kinds turn.end turn.n h.0.leaves h.0.short) (each_held limit.Delay turn.delays h.0.delays))
+    (not_over a s (all_append IsHeld (end_numbers (named_end_of kinds turn.end) (pos turn.n)) (map (held limit.Delay) turn.delays) (ending_held kinds turn.end turn.n h.0.leaves h.0.short) (each_held limit.Delay turn.delays h.0.delays))
     (record { kinds = few_kinds; turns = omega arith; salvos = omega arith; delays = few_delays; lanes = omega arith; cells = omega arith }))
     (subst (λ (t : RawTurn). AreFineFor (told book kinds (Some book.start) (front ++ (t ∷ [])) []) (map (turn_words kinds) back) (told book kinds (Some book.start) book.turns [])) (sym (turn_back kinds turn h.0 p.kind_names))
     (turns_fine book p (front ++ (turn ∷ [])) back (e ∙ sym (append_assoc front (turn ∷ []) back)) h.1))

@@ -26,8 +26,8 @@ use Rattle.book_lines.specs.declared.keyword.Keyword.{Keyword}
 use Rattle.book_lines.specs.declared.keyword.Keyword.TheVariants as first
 use Rattle.book_lines.specs.declared.statement.Body.TheVariants.{Drawn}
 use Rattle.book_lines.specs.declared.statement.Placed.{Placed}
-use Rattle.book_lines.specs.declared.statement.Leaves.{Leaves}
-use Rattle.book_lines.specs.declared.statement.Leaves.TheVariants.{Close, Move, Emit}
+use Rattle.book_lines.specs.declared.statement.NamedEnd.{NamedEnd}
+use Rattle.book_lines.specs.declared.statement.NamedEnd.TheVariants.{Close, Move, Emit}
 use Rattle.book_lines.specs.declared.statement.ElbowLine.{ElbowLine}
 use Rattle.book_lines.specs.declared.statement.TurnLine.{TurnLine}
 use Rattle.book_lines.specs.declared.statement.SalvoLine.{SalvoLine}
@@ -35,7 +35,7 @@ use Rattle.book_lines.specs.declared.statement.Statement.{Statement}
 use Rattle.book_lines.specs.declared.statement.Statement.TheVariants.{Setting, Hand, Elbow, Start, Turn, Salvo}
 use Rattle.book_lines.specs.Values.{IsBodyAt}
 use Rattle.book_lines.specs.Values.Level.{Whole}
-use Rattle.book_lines.specs.Forms.{KeepsOrder, IsPair, IsBody, IsPlacedBody, IsElbowLine, IsStep, IsEnding, IsProduct, IsHand, IsSalvoLine as IsSalvoForm}
+use Rattle.book_lines.specs.Forms.{KeepsOrder, IsPair, IsBody, IsPlacedBody, IsElbowLine, IsNextKind, IsEnding, IsProduct, IsHand, IsSalvoLine as IsSalvoForm}
 use Rattle.book_lines.specs.declared.book_word.BookWord.{BookWord}
 use Rattle.book_lines.specs.Words.{word_text, spelling}
 use Rattle.book_lines.specs.WordLaws.{each_passes}
@@ -203,14 +203,14 @@ start_line name h = line_for (Start name) (name ∷ []) (name_word name h, tt) (
 
 -- ---- turns
 
-abbrev pub leaves_of : List RawKind → TurnEnd → Leaves
-leaves_of kinds ending.Close = Close
-leaves_of kinds (ending.Move kind shift) = Move (kind_name kinds kind) shift
-leaves_of kinds (ending.Emit kind shift lane j) = Emit (kind_name kinds kind) shift lane j
+abbrev pub named_end_of : List RawKind → TurnEnd → NamedEnd
+named_end_of kinds ending.Close = Close
+named_end_of kinds (ending.Move kind shift) = Move (kind_name kinds kind) shift
+named_end_of kinds (ending.Emit kind shift lane j) = Emit (kind_name kinds kind) shift lane j
 
 -- a turn, as a line tells it
 abbrev pub turn_told : List RawKind → RawTurn → TurnLine
-turn_told kinds turn = record { name = turn.name; kind = kind_name kinds turn.kind; leaves = leaves_of kinds turn.end; n = pos turn.n; delays = turn.delays }
+turn_told kinds turn = record { name = turn.name; kind = kind_name kinds turn.kind; end = named_end_of kinds turn.end; n = pos turn.n; delays = turn.delays }
 
 -- the kinds that a turn leads to have names
 abbrev pub HasNext : List RawKind → TurnEnd → Type 0
@@ -224,8 +224,8 @@ short_count n h = omega arith
 short_index : (j : ℤ) → IsIndex j → IsShort j
 short_index j h = let low = h.low in let high = h.high in short_from j (omega (arith, ints)) (omega (arith, ints))
 
-step_is : (kind : List ℕ) (shift : ℤ) (n : ℕ) (more : List (List ℕ)) → IsName kind → IsShort shift → IsShort (pos n) → IsStep Whole kind shift (pos n) (step_words kind shift n ++ more) more
-step_is kind shift n more k s h = record { text_shift = signed_decimal shift; text_n = decimal n; items_are = refl; name_is = k; number_shift = number_at shift s; number_n = number_at (pos n) h }
+next_kind_is : (kind : List ℕ) (shift : ℤ) (n : ℕ) (more : List (List ℕ)) → IsName kind → IsShort shift → IsShort (pos n) → IsNextKind Whole kind shift (pos n) (step_words kind shift n ++ more) more
+next_kind_is kind shift n more k s h = record { text_shift = signed_decimal shift; text_n = decimal n; items_are = refl; name_is = k; number_shift = number_at shift s; number_n = number_at (pos n) h }
 
 step_each : (kind : List ℕ) (shift : ℤ) (n : ℕ) → IsName kind → IsShort shift → IsShort (pos n) → AllByRecursion IsWord (step_words kind shift n)
 step_each kind shift n k s h = (name_word kind k, (number_word shift s, (number_word (pos n) h, tt)))
@@ -247,7 +247,7 @@ none_word = record { some = lit< tt; bytes = refl }
 
 -- what is read of what a turn leaves
 record IsEndingFor (kinds : List RawKind) (end : TurnEnd) (n : ℕ) : Type 0 where
-  is : IsEnding Whole (leaves_of kinds end) (pos n) (ending_words kinds end n)
+  is : IsEnding Whole (named_end_of kinds end) (pos n) (ending_words kinds end n)
   each : AllByRecursion IsWord (ending_words kinds end n)
 
 ending_for : (kinds : List RawKind) (end : TurnEnd) (n : ℕ) → IsProperEnd (length kinds) end → HasNext kinds end → n ≤ LONGEST_TURN → IsEndingFor kinds end n
@@ -257,7 +257,7 @@ ending_for kinds ending.Close n p k h =
 ending_for kinds (ending.Move kind shift) n p k h =
     let s = short_count n h in
     let d = short_coordinate shift p.1 in
-    record { is = (step_words (kind_name kinds kind) shift n, (refl, step_is (kind_name kinds kind) shift n [] k d s)); each = (word_of_move, step_each (kind_name kinds kind) shift n k d s) }
+    record { is = (step_words (kind_name kinds kind) shift n, (refl, next_kind_is (kind_name kinds kind) shift n [] k d s)); each = (word_of_move, step_each (kind_name kinds kind) shift n k d s) }
 ending_for kinds (ending.Emit kind shift lane j) n p k h =
     let s = short_count n h in
     let d = short_coordinate shift p.1.0 in
@@ -265,7 +265,7 @@ ending_for kinds (ending.Emit kind shift lane j) n p k h =
     let i = short_index j p.1.1.1 in
     let thrown = place_words (cell lane j) in
     record {
-      is = (step_words (kind_name kinds kind) shift n ++ thrown, (thrown, (refl, (step_is (kind_name kinds kind) shift n thrown k d s, pair_is (cell lane j) l i))));
+      is = (step_words (kind_name kinds kind) shift n ++ thrown, (thrown, (refl, (next_kind_is (kind_name kinds kind) shift n thrown k d s, pair_is (cell lane j) l i))));
       each = (word_of_emit, all_append IsWord (step_words (kind_name kinds kind) shift n) thrown (step_each (kind_name kinds kind) shift n k d s) (place_each (cell lane j) l i));
     }
 

@@ -13,7 +13,8 @@ use Rattle.life_cells.specs.Cells.{cell, cell_cmp, IsRising, Cells, alive, from_
 use Rattle.life_cells.specs.Listed.{same_cell, listed}
 use Rattle.life_cells.specs.Laws.{alive-from_list, alive-from_list_at, listed-append_at}
 use Rattle.life_cells.specs.OrderLaws.{cells_total, same_cell_is}
-use Rattle.life_cells.proofs.Places.{search_is_listed, sorted_from_rising}
+use Rattle.life_cells.proofs.Places.{search_is_listed}
+use Rattle.life_cells.specs.SortedLaws.{sorted_from_rising}
 use Rattle.life_plane.specs.Plane.{union, same_plane}
 
 -- a search of the items says whether the cell is in the set

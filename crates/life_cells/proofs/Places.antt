@@ -1,31 +1,20 @@
 -- What an index and a search say of a list of cells.
-use Rattle.std.proofs.Common.{◌≡◌, ℕ, ◌+◌, Bool, true, false, List, length, get_or, Option, Some, None, Result, Ok, Err, refl, sym, ap, ◌∙◌, arith, inl, inr}
+use Rattle.std.proofs.Common.{◌≡◌, ℕ, Bool, true, false, List, length, get_or, Result, Ok, Err, refl, sym, ap, ◌∙◌, arith, inl, inr}
 use Rattle.std.specs.declared.cmp.Ordering.TheVariants.{Less, Greater}
-use Rattle.std.specs.Ordering.{is_lt, is_eq}
+use Rattle.std.specs.Ordering.{is_eq}
 use Rattle.std.specs.Cmp.{tied_back}
-use Rattle.std.specs.List.{slice_get, Contains}
-use Rattle.std.specs.List.Sorted.{IsSorted, IsBinarySearchResult, IsSearchInRange}
-use Rattle.std.specs.Option.{option_copied}
+use Rattle.std.specs.List.{Contains}
+use Rattle.std.specs.List.Sorted.{IsBinarySearchResult, IsSearchInRange}
 use Rattle.std.specs.Result.{is_ok}
-use Rattle.std.specs.Slice.{IsItemAt}
-use Rattle.std.specs.Borrow.{Bor}
-use Rattle.std.proofs.lemmas.Option.{slice_get_past, slice_get-get_or}
 use Rattle.std.proofs.lemmas.Bool.{cases_lt}
 use Rattle.std.proofs.lemmas.List.Folds.{list_any_at, list_any_none, Any-from_list_any}
 use Rattle.std.proofs.lemmas.List.Sorted.{searchable_from_sorted}
-use Rattle.std.proofs.lemmas.Map.Keys.{Less-from_sorted}
 use Rattle.life_cells.specs.declared.cell.Cell.{Cell}
 use Rattle.life_cells.specs.Cells.{cell_cmp, IsRising}
 use Rattle.life_cells.specs.Listed.{same_cell, listed}
+use Rattle.life_cells.specs.SortedLaws.{sorted_from_rising}
 use Rattle.life_cells.specs.OrderLaws.{cells_total, same_cell_is, same_cell-itself, turned}
 use Rattle.life_plane.specs.Plane.{same_plane}
-
-pub copied_item : (cs : List Cell) (i : ℕ) (r : Option (Bor Cell)) → IsItemAt cs i r → option_copied r ≡ slice_get cs i
-copied_item cs i None h = sym (slice_get_past cs i h.3)
-copied_item cs i (Some b) h = ap Some (h.3.1 b.now) ∙ sym (slice_get-get_or cs i b.now h.3.0)
-
-pub sorted_from_rising : (cs : List Cell) → IsRising cs → IsSorted cell_cmp cs
-sorted_from_rising cs h k d _ lt = ap is_lt (turned (get_or cs k d) (get_or cs (k + 1) d) Less (Less-from_sorted cell_cmp cs k (k + 1) d h (omega arith) lt))
 
 -- a search finds exactly what is listed
 pub search_is_listed : (cs : List Cell) (c : Cell) (r : Result ℕ ℕ) → IsRising cs → IsSearchInRange r (length cs) → IsBinarySearchResult (λ y. cell_cmp y c) cs r → is_ok r ≡ listed cs c.x c.y

@@ -18,3 +18,4 @@ pub mod FirstLaws
 pub mod PlaceLaws
 pub mod MovedLaws
 pub mod BoxRangeLaws
+pub mod SortedLaws

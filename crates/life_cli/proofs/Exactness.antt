@@ -18,7 +18,8 @@ use Rattle.book_text.specs.Book.{Said, Says, StopsWith}
 use Rattle.book_read.specs.declared.error.BookError as book
 use Rattle.recipe_turn.specs.Checked.{AreValid}
 use Rattle.elbow_graph.specs.States.{HasStates}
-use Rattle.recipe_book.specs.Checked.{CheckedEntries, most_states}
+use Rattle.recipe_book.specs.Checked.{CheckedEntries}
+use Rattle.book_parts.specs.declared.limits.TheConstants.{MOST_STATES}
 use Rattle.recipe_book.specs.Entries.{AreTheSound}
 use Rattle.recipe_book.specs.Refusals.{BookIsRefused}
 use Rattle.recipe_book.specs.declared.refusal.BookRefusal as check
@@ -51,7 +52,7 @@ pub record PartsAreExact : Type 0 where
   pub one_salvos : OneSalvos
   pub one_hits : OneHits
   pub book_taken : (settings : Settings) (hand : Cells) (kinds : List RawKind) (start : ℕ) (turns sound : List RawTurn) (count : ℕ) (e : check.BookRefusal) →
-      AreValid settings kinds → IsStill (alive hand) → AreTheSound settings kinds turns sound → HasStates sound start settings.span most_states count →
+      AreValid settings kinds → IsStill (alive hand) → AreTheSound settings kinds turns sound → HasStates sound start settings.span MOST_STATES count →
       BookIsRefused settings hand kinds start turns e → e ≡ check.TheVariants.Memory
   pub no_stop : (book : CheckedEntries) (target : Plane) (plan : Plan) (e : PlanError) → IsPlan book target plan → PlanStops book target e → e ≡ stop.Memory
 

@@ -12,7 +12,8 @@ use Rattle.recipe_hit.specs.Checked.{Struck}
 use Rattle.recipe_hit.specs.Checked as salvo
 use Rattle.recipe_hit.specs.Sound.{AreHits}
 use Rattle.elbow_graph.specs.States.{HasStates}
-use Rattle.recipe_book.specs.Checked.{CheckedEntries, IsCheckedBook, IsAt, most_states, raw_salvos}
+use Rattle.recipe_book.specs.Checked.{CheckedEntries, IsCheckedBook, IsAt, raw_salvos}
+use Rattle.book_parts.specs.declared.limits.TheConstants.{MOST_STATES}
 use Rattle.recipe_book.specs.Entries.{AreTheSound, AreTheSoundSalvos}
 use Rattle.life_cli.specs.Book.{IsStruckAt, PassesTests}
 
@@ -37,6 +38,6 @@ tests_passed said book is settings kinds start hand turns salvos = record {
   own_salvos = struck_at book.hand said.hand book.salvos hand is.salvos is.own_salvos;
   count = is.states.0;
   states =
-      subst (λ (s : Settings). HasStates (raws book.turns) said.start s.span most_states is.states.0) settings
-      (subst (λ (n : ℕ). HasStates (raws book.turns) n book.settings.span most_states is.states.0) start is.states.1);
+      subst (λ (s : Settings). HasStates (raws book.turns) said.start s.span MOST_STATES is.states.0) settings
+      (subst (λ (n : ℕ). HasStates (raws book.turns) n book.settings.span MOST_STATES is.states.0) start is.states.1);
 }

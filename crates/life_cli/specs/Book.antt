@@ -10,7 +10,8 @@ use Rattle.recipe_turn.specs.Checked.{AreValid, IsOf, raws}
 use Rattle.recipe_hit.specs.Checked.{Struck}
 use Rattle.recipe_hit.specs.Sound.{AreHits}
 use Rattle.elbow_graph.specs.States.{HasStates}
-use Rattle.recipe_book.specs.Checked.{CheckedEntries, most_states, raw_salvos}
+use Rattle.recipe_book.specs.Checked.{CheckedEntries, raw_salvos}
+use Rattle.book_parts.specs.declared.limits.TheConstants.{MOST_STATES}
 use Rattle.recipe_book.specs.Entries.{AreTheSound, AreTheSoundSalvos}
 use Rattle.recipe_book.specs.Refusals.{BookIsRefused, generations, most_hit_generations}
 use Rattle.recipe_book.specs.declared.refusal.BookRefusal as check
@@ -43,7 +44,7 @@ pub record PassesTests (said : Said) (book : CheckedEntries) : Type 0 where
   pub salvos : AreTheSoundSalvos (alive said.hand) said.salvos (raw_salvos book.salvos)
   pub own_salvos : AllByRecursion (IsStruckAt said.hand) book.salvos
   pub count : ℕ
-  pub states : HasStates (raws book.turns) said.start said.settings.span most_states count
+  pub states : HasStates (raws book.turns) said.start said.settings.span MOST_STATES count
 
 -- the tests refuse so
 abbrev pub TestsRefuse : Said → Status → Type 0

@@ -18,7 +18,7 @@ use Rattle.rle_items.specs.declared.item.Item.{Item}
 use Rattle.rle_items.specs.declared.item.Tag.{Tag}
 use Rattle.rle_items.specs.declared.item.Tag.TheVariants.{Dead, Alive, RowEnd}
 use Rattle.rle_items.specs.Items.{rows, columns, AreCells}
-use Rattle.std.proofs.lemmas.Bool.{and_parts, or_cases, or_left, or_right}
+use Rattle.std.proofs.lemmas.Bool.{or_cases, or_left, or_right}
 use Rattle.life_rle.specs.Written.{may_follow, IsTidyAfter}
 use Rattle.life_rle.specs.Drawn.{some_of, IsBehind, IsAhead, IsNext, IsGapInRow, IsGapDown, IsGap, HasGap, StartsAfter, IsTidyFrom, AreSmall}
 use Rattle.life_plane.specs.NumberLaws.{cases_below}
@@ -332,13 +332,6 @@ added_down left from to m n old middle new h e f y x = (
 )
 
 -- ---- one cell of a list after the other
-
--- a test of two cells, read
-pub same_by_tests : (a b : Cell) → (int_eq a.y b.y && int_eq a.x b.x) ≡ true → a ≡ b
-same_by_tests a b h =
-    let y : a.y ≡ b.y = (Decides-int_eq a.y b.y).0 (and_parts _ _ h).0 in
-    let x : a.x ≡ b.x = (Decides-int_eq a.x b.x).0 (and_parts _ _ h).1 in
-    λ i. record { y = y i; x = x i }
 
 pub ahead_by_tests : (left : ℤ) (pen c : Cell) → IsNext left pen c → (int_eq c.y pen.y && int_eq c.x pen.x) ≡ false → IsAhead pen c
 ahead_by_tests left pen c n h =

@@ -1,7 +1,7 @@
 -- Lemmas of the reader: lines, the header, comments and items.
 pub mod Lined
 pub mod Headers
-pub mod Starting
+pub mod BeforeItems
 pub mod Placing
 pub mod Blanking
 pub mod Meaning

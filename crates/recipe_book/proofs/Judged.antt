@@ -25,7 +25,7 @@ use Rattle.recipe_book.specs.Entries.{IsSoundIn}
 use Rattle.recipe_book.specs.Verdicts.{TurnFails, SalvoFails, IsTurnVerdict, IsSalvoVerdict}
 use Rattle.recipe_book.specs.Accepting.{IsKeptTurn, IsKeptSalvo}
 use Rattle.recipe_book.specs.declared.verdict.Verdict.{Verdict}
-use Rattle.recipe_book.proofs.JudgedSoFar.{IsSoFar}
+use Rattle.recipe_book.proofs.JudgedEntries.{IsSoFar}
 use Rattle.recipe_hit.specs.declared.limits.TheConstants.{MOST_COUNTED}
 
 -- the turns so far

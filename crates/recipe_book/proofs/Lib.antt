@@ -1,5 +1,5 @@
 -- Lemmas on checked books.
-pub mod JudgedSoFar
+pub mod JudgedEntries
 pub mod Judged
 pub mod Indexing
 pub mod Refusing

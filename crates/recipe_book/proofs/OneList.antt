@@ -23,7 +23,7 @@ use Rattle.recipe_turn.specs.Refusals.{KindsAreRefused, TurnIsRefused}
 use Rattle.elbow_graph.specs.States.{HasStates, HasMoreStates}
 use Rattle.recipe_turn.specs.declared.refusal.KindsError.{KindsError}
 use Rattle.recipe_turn.specs.declared.refusal.KindsError.TheVariants as kinds
-use Rattle.recipe_book.specs.Checked.{most_states}
+use Rattle.book_parts.specs.declared.limits.TheConstants.{MOST_STATES}
 use Rattle.recipe_book.specs.Entries.{AreThose, IsSoundIn, AreTheSound}
 use Rattle.recipe_book.specs.Verdicts.{IsTurnVerdict, IsSalvoVerdict, AreVerdicts}
 use Rattle.recipe_book.specs.declared.verdict.Verdict.{Verdict}
@@ -33,13 +33,7 @@ use Rattle.recipe_book.specs.Refusals.{BookIsRefused}
 use Rattle.recipe_book.specs.declared.refusal.BookRefusal.{BookRefusal}
 use Rattle.recipe_book.specs.declared.refusal.BookRefusal.TheVariants.{KindPlace, KindNotStill, HandNotStill, ElbowMany, Memory}
 use Rattle.book_parts.specs.ListLaws.{one_each}
-
-pub one_list : {A : Type 0} (P : A → Type 0) (xs a b : List A) → AreThose P xs a → AreThose P xs b → a ≡ b
-one_list P [] a b h k = h ∙ sym k
-one_list {A} P (x ∷ xs) a b (inl h) (inl k) = h.1.1.0 ∙ ap (λ (rest : List A). x ∷ rest) (one_list P xs h.1.0 k.1.0 h.1.1.1 k.1.1.1) ∙ sym k.1.1.0
-one_list P (x ∷ xs) a b (inl h) (inr k) = absurd (k.0 h.0)
-one_list P (x ∷ xs) a b (inr h) (inl k) = absurd (h.0 k.0)
-one_list P (x ∷ xs) a b (inr h) (inr k) = one_list P xs a b h.1 k.1
+use Rattle.recipe_book.specs.EntryLaws.{those_once}
 
 -- what is known of refusals of turns and of salvos: what is sound has none, and each has one at most
 pub record RefusalsAreExact : Type 0 where
@@ -85,13 +79,13 @@ still_is n c e = cc
 pub no_refusal : ((settings : Settings) (list : List RawKind) (e : KindsError) → AreValid settings list → KindsAreRefused settings list e → e ≡ kinds.Memory) →
     ((turns : List RawTurn) (start : ℕ) (span : _) (limit count : ℕ) → HasStates turns start span limit count → HasMoreStates turns start span limit → ⊥) →
     (settings : Settings) (hand : Cells) (list : List RawKind) (start : ℕ) (turns sound : List RawTurn) (count : ℕ) (e : BookRefusal) →
-    AreValid settings list → IsStill (alive hand) → AreTheSound settings list turns sound → HasStates sound start settings.span most_states count → BookIsRefused settings hand list start turns e → e ≡ Memory
+    AreValid settings list → IsStill (alive hand) → AreTheSound settings list turns sound → HasStates sound start settings.span MOST_STATES count → BookIsRefused settings hand list start turns e → e ≡ Memory
 no_refusal kinds_law states_law settings hand list start turns sound count (KindPlace n c) valid still are states r = absurd (place_is n c (kinds_law settings list (kinds.Place n c) valid r))
 no_refusal kinds_law states_law settings hand list start turns sound count (KindNotStill n c) valid still are states r = absurd (still_is n c (kinds_law settings list (kinds.NotStill n c) valid r))
 no_refusal kinds_law states_law settings hand list start turns sound count (HandNotStill c) valid still are states r = absurd (r.1.is (λ i. still i c.x c.y))
 no_refusal kinds_law states_law settings hand list start turns sound count (ElbowMany m) valid still are states r =
     let many = r.1.1.1 in
-    absurd (states_law sound start settings.span most_states count states (subst (λ (ts : List RawTurn). HasMoreStates ts start settings.span most_states) (one_list (IsSoundIn settings list) turns many.sound sound many.are are) many.more))
+    absurd (states_law sound start settings.span MOST_STATES count states (subst (λ (ts : List RawTurn). HasMoreStates ts start settings.span MOST_STATES) (those_once (IsSoundIn settings list) turns many.sound sound many.are are) many.more))
 no_refusal kinds_law states_law settings hand list start turns sound count Memory valid still are states r = refl
 
 -- what is known of refusals of kinds: valid ones have none, and there is one at most

@@ -11,15 +11,12 @@ use Rattle.book_parts.specs.declared.settings.Settings.{Settings}
 use Rattle.book_parts.specs.contracts.settings.Settings as settings_row
 use Rattle.book_parts.specs.declared.kind.RawKind.{RawKind}
 use Rattle.book_parts.specs.declared.salvo.RawSalvo.{RawSalvo}
+use Rattle.book_parts.specs.declared.limits.TheConstants.{MOST_STATES}
 use Rattle.recipe_turn.specs.Checked.{Checked, coded_kind, coded_checked, AreValid, IsChecked, IsOf}
 use Rattle.recipe_turn.specs.Checked.{raws}
 use Rattle.elbow_graph.specs.States.{HasStates}
 use Rattle.recipe_hit.specs.Checked as hit
 use Rattle.recipe_hit.specs.Checked.{Struck, coded_struck}
-
--- the most elbow states of a book
-abbrev pub most_states : ℕ
-most_states = 4194304
 
 -- a book with its sound turns and salvos
 pub record CheckedEntries : Type 0 where
@@ -58,4 +55,4 @@ pub record IsCheckedBook (book : CheckedEntries) : Type 0 where
   pub own : AllByRecursion (IsOf book.settings book.kinds) book.turns
   pub salvos : AllByRecursion hit.IsChecked book.salvos
   pub own_salvos : AllByRecursion (IsAt book.hand) book.salvos
-  pub states : (count : ℕ) × HasStates (raws book.turns) book.start book.settings.span most_states count
+  pub states : (count : ℕ) × HasStates (raws book.turns) book.start book.settings.span MOST_STATES count

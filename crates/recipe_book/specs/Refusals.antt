@@ -12,7 +12,7 @@ use Rattle.recipe_turn.specs.Refusals.{KindsAreRefused}
 use Rattle.elbow_graph.specs.States.{HasMoreStates}
 use Rattle.recipe_turn.specs.declared.refusal.KindsError.TheVariants as kinds
 use Rattle.recipe_book.specs.Entries.{AreTheSound}
-use Rattle.recipe_book.specs.Checked.{most_states}
+use Rattle.book_parts.specs.declared.limits.TheConstants.{MOST_STATES}
 use Rattle.recipe_book.specs.declared.refusal.BookRefusal.{BookRefusal}
 use Rattle.recipe_book.specs.declared.refusal.BookRefusal.TheVariants.{KindPlace, KindNotStill, HandNotStill, ElbowMany, Memory}
 use Rattle.recipe_hit.specs.declared.limits.TheConstants.{MOST_COUNTED}
@@ -21,7 +21,7 @@ use Rattle.recipe_hit.specs.declared.limits.TheConstants.{MOST_COUNTED}
 pub record HasManyStates (settings : Settings) (kinds : List RawKind) (start : ℕ) (turns : List RawTurn) : Type 0 where
   pub sound : List RawTurn
   pub are : AreTheSound settings kinds turns sound
-  pub more : HasMoreStates sound start settings.span most_states
+  pub more : HasMoreStates sound start settings.span MOST_STATES
 
 -- a book of these parts is refused so
 abbrev pub BookIsRefused : Settings → Cells → List RawKind → ℕ → List RawTurn → BookRefusal → Type 0
@@ -29,7 +29,7 @@ BookIsRefused settings hand list start turns (KindPlace kind cell) = KindsAreRef
 BookIsRefused settings hand list start turns (KindNotStill kind cell) = KindsAreRefused settings list (kinds.NotStill kind cell)
 BookIsRefused settings hand list start turns (HandNotStill cell) = AreValid settings list × IsFirstChange (alive hand) cell
 BookIsRefused settings hand list start turns (ElbowMany count) =
-    AreValid settings list × (IsStill (alive hand) × ((count ≡ most_states + 1) × HasManyStates settings list start turns))
+    AreValid settings list × (IsStill (alive hand) × ((count ≡ MOST_STATES + 1) × HasManyStates settings list start turns))
 BookIsRefused settings hand list start turns Memory = Unit {0}
 
 -- the test of the kinds refuses so
@@ -47,7 +47,7 @@ HandRefuses hand other = ⊥
 
 -- the count of the elbow's states refuses so
 abbrev pub StatesRefuse : List RawTurn → ℕ → ℤ → BookRefusal → Type 0
-StatesRefuse turns start span (ElbowMany count) = (count ≡ most_states + 1) × HasMoreStates turns start span most_states
+StatesRefuse turns start span (ElbowMany count) = (count ≡ MOST_STATES + 1) × HasMoreStates turns start span MOST_STATES
 StatesRefuse turns start span Memory = Unit {0}
 StatesRefuse turns start span other = ⊥
 

@@ -9,7 +9,8 @@ ghost use Rattle.book_parts.specs.Proper.{IsProperBook, IsProperHand, IsProperKi
 ghost use Rattle.recipe_turn.specs.Checked.{AreValid};
 ghost use Rattle.recipe_turn.specs.Checked.{raws};
 ghost use Rattle.elbow_graph.specs.States.{HasStates};
-ghost use Rattle.recipe_book.specs.Checked.{most_states, raw_salvos};
+ghost use Rattle.recipe_book.specs.Checked.{raw_salvos};
+ghost use Rattle.book_parts.specs.declared.limits.TheConstants.{MOST_STATES};
 ghost use Rattle.recipe_book.specs.Entries.{AreTheSound, AreTheSoundSalvos};
 ghost use Rattle.recipe_book.specs.Verdicts.{AreVerdicts};
 ghost use Rattle.recipe_book.specs.Refusals.{BookIsRefused, KindsRefuse, HandRefuses, StatesRefuse, generations, most_hit_generations};
@@ -20,6 +21,7 @@ use crate::refusal::BookRefusal;
 use crate::salvos::sound_salvos;
 use crate::turns::sound_turns;
 use crate::verdict::Verdict;
+use book_parts::limits::MOST_STATES;
 use book_parts::{RawBook, RawKind, Settings};
 use elbow_graph::elbow_states;
 use life_cells::{CellSet, NoMemory};
@@ -28,9 +30,6 @@ use recipe_hit::{Hand, HandRefusal, check_hand};
 use recipe_turn::{CheckedTurn, Kinds, KindsError, check_kinds};
 use std::alloc::Global;
 use std::sync::ledger::Ledger;
-
-/// The most elbow states of a book.
-const MOST_STATES: u64 = 4_194_304;
 
 /// The kinds, where all are valid.
 fn valid_kinds<L: Ledger>(
@@ -87,7 +86,7 @@ fn check_states(
     settings: &Settings,
 ) -> Result<(), BookRefusal>
     requires { AreProper settings.now }
-    ensures states { IfOk result (λ _. (count : ℕ) × HasStates (raws turns.now) start settings.now.span most_states count) }
+    ensures states { IfOk result (λ _. (count : ℕ) × HasStates (raws turns.now) start settings.now.span MOST_STATES count) }
     ensures err { IfErr result (λ e. StatesRefuse (raws turns.now) start settings.now.span e) }
 {
     match elbow_states(alloc, turns, start, settings.span, MOST_STATES) {

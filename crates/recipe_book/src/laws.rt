@@ -11,7 +11,7 @@ ghost use Rattle.book_parts.specs.declared.salvo.RawSalvo.{RawSalvo};
 ghost use Rattle.recipe_turn.specs.Checked.{AreValid};
 ghost use Rattle.elbow_graph.specs.States.{HasStates};
 ghost use Rattle.recipe_hit.specs.Checked.{Struck};
-ghost use Rattle.recipe_book.specs.Checked.{most_states};
+ghost use Rattle.book_parts.specs.declared.limits.TheConstants.{MOST_STATES};
 ghost use Rattle.recipe_book.specs.Entries.{AreTheSound, AreTheSoundSalvos};
 ghost use Rattle.recipe_book.specs.Verdicts.{AreVerdicts};
 ghost use Rattle.recipe_book.specs.ByShape.{AreNumbersOf};
@@ -57,7 +57,7 @@ pub fn numbers_under_a_shape_are_one()
 /// A book with valid kinds, a still hand and few elbow states has no refusal.
 pub fn taken_books_have_no_refusal()
     ensures { (settings : Settings) (hand : Cells) (kinds : List RawKind) (start : ℕ) (turns sound : List RawTurn) (count : ℕ) (e : BookRefusal) →
-        AreValid settings kinds → IsStill (alive hand) → AreTheSound settings kinds turns sound → HasStates sound start settings.span most_states count →
+        AreValid settings kinds → IsStill (alive hand) → AreTheSound settings kinds turns sound → HasStates sound start settings.span MOST_STATES count →
         BookIsRefused settings hand kinds start turns e → e ≡ BookRefusal.Memory }
 {
     // These say that valid kinds have no refusal and that few states are not many; they do nothing.

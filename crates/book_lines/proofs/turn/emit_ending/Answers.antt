@@ -10,19 +10,19 @@ use Rattle.book_lines.proofs.Cutting.{emit_numbers}
 
 pub returns-in_default-two_numbers : goal.returns-in_default-two_numbers
 returns-in_default-two_numbers c = λ e h.
-    let s = c.in-Some.step in
-    let numbers = emit_numbers _ s.kind.now s.shift.now s.n.now (texts s.more.now) c.in-Some.ensures.some.0 e.leaves e.n h in
+    let s = c.in-Some.next in
+    let numbers = emit_numbers _ s.kind.now s.shift.now s.n.now (texts s.more.now) c.in-Some.ensures.some.0 e.end e.n h in
     c.in_default-two_numbers.ensures.numbers (numbers.1.0, e.n) numbers.1.1
 
 pub returns-in_default-pair : goal.returns-in_default-pair
 returns-in_default-pair c = λ e h.
-    let s = c.in-Some.step in
-    let numbers = emit_numbers _ s.kind.now s.shift.now s.n.now (texts s.more.now) c.in-Some.ensures.some.0 e.leaves e.n h in
+    let s = c.in-Some.next in
+    let numbers = emit_numbers _ s.kind.now s.shift.now s.n.now (texts s.more.now) c.in-Some.ensures.some.0 e.end e.n h in
     c.in_default-pair.ensures numbers.0.0 numbers.0.1
 
 pub returns : goal.returns
 returns c =
-    let s = c.in-Some.step in
+    let s = c.in-Some.next in
     let shift = c.in-Some-two_numbers.shift in
     let n = c.in-Some-two_numbers.n in
     let x = c.in-Some-pair.glider.x in

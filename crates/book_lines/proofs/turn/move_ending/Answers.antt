@@ -10,18 +10,18 @@ use Rattle.book_lines.proofs.Cutting.{move_numbers}
 
 pub returns-then-not-is_empty : goal.returns-then-not-is_empty
 returns-then-not-is_empty c = λ e h.
-    let s = c.in-Some.step in
-    not_none s.more.now c.if-not-is_empty.ensures (move_numbers _ s.kind.now s.shift.now s.n.now (texts s.more.now) c.in-Some.ensures.some.0 e.leaves e.n h).0
+    let s = c.in-Some.next in
+    not_none s.more.now c.if-not-is_empty.ensures (move_numbers _ s.kind.now s.shift.now s.n.now (texts s.more.now) c.in-Some.ensures.some.0 e.end e.n h).0
 
 pub returns-in_default-two_numbers : goal.returns-in_default-two_numbers
 returns-in_default-two_numbers c = λ e h.
-    let s = c.in-Some.step in
-    let numbers = move_numbers _ s.kind.now s.shift.now s.n.now (texts s.more.now) c.in-Some.ensures.some.0 e.leaves e.n h in
+    let s = c.in-Some.next in
+    let numbers = move_numbers _ s.kind.now s.shift.now s.n.now (texts s.more.now) c.in-Some.ensures.some.0 e.end e.n h in
     c.in_default-two_numbers.ensures.numbers (numbers.1.0, e.n) numbers.1.1
 
 pub returns : goal.returns
 returns c =
-    let s = c.in-Some.step in
+    let s = c.in-Some.next in
     let shift = c.in-Some-two_numbers.shift in
     let n = c.in-Some-two_numbers.n in
     let small = c.in-Some-two_numbers.ensures.small in

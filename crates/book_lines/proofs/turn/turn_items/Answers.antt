@@ -15,7 +15,7 @@ returns-then-not-is_ending-clause-none c = λ turn h.
     let whole : texts c.args.items.now ≡ own ∷ (kind ∷ (texts c.in_ok-ending.ending.now ++ (codes ":" ∷ texts c.in_ok-ending.delays.now))) =
     c.in_ok-own.ensures ∙ ap (λ (ts : List (List ℕ)). own ∷ ts) (c.in_ok-kind.ensures ∙ ap (λ (ts : List (List ℕ)). kind ∷ ts) cut.0) in
     let p = turn_parts turn _ own kind (texts c.in_ok-ending.ending.now) (texts c.in_ok-ending.delays.now) h whole cut.1 in
-    let yes = c.is_ending.ensures.1 (turn.leaves, (turn.n, subst (λ (ts : List (List ℕ)). IsEnding Level.Form turn.leaves turn.n ts) p.ending_is h.ending_is)) in
+    let yes = c.is_ending.ensures.1 (turn.end, (turn.n, subst (λ (ts : List (List ℕ)). IsEnding Level.Form turn.end turn.n ts) p.ending_is h.ending_is)) in
     false≢true (sym c.if-not-is_ending.true ∙ yes)
 
 pub returns-then-not-are_numbers-clause-none : goal.returns-then-not-are_numbers-clause-none

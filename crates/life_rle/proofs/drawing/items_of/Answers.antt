@@ -11,7 +11,8 @@ use Rattle.rle_items.specs.Items.{AreCells}
 use Rattle.life_rle.specs.Drawn.{some_of, IsBehind, IsTidyFrom}
 use Rattle.life_rle.proofs.drawing.items_of.Goals as goal
 use Rattle.life_rle.proofs.drawing.items_of.Goals.{then-ne+in_ok-push_some+in_ok-push_gap, else-ne}
-use Rattle.life_rle.proofs.Growing.{IsDrawn, IsReady, drawn_none, next_all, next_at, next_step, rising_step, drawn_step, ready_here, ready_gap, ahead_by_tests, same_by_tests, drawn_tidy, drawn_small}
+use Rattle.life_cells.specs.SameLaws.{same_fields_is}
+use Rattle.life_rle.proofs.Growing.{IsDrawn, IsReady, drawn_none, next_all, next_at, next_step, rising_step, drawn_step, ready_here, ready_gap, ahead_by_tests, drawn_tidy, drawn_small}
 
 pub loop-cell-init : goal.loop-cell-init
 loop-cell-init c =
@@ -74,7 +75,7 @@ loop-cell-preserved c =
           ap (λ v. v.items) w.items-is ∙ gap.1.0 ∙ ap (λ (is : List Item). is ++ gap.0) w.in_ok-push_some.ensures in
           rw (w.run-is, items) (ready_gap left top _ _ _ c.loop-cell.pen here gap.0 drawn low low_top n gap.1.1)
       | else-ne w ↦
-          let same : here ≡ c.loop-cell.pen = same_by_tests _ _ (not_true _ w.if-ne.ensures) in
+          let same : here ≡ c.loop-cell.pen = same_fields_is _ _ (not_true _ w.if-ne.ensures) in
           rw (w.run-is, ap (λ v. v.items) w.items-is, same) (ready_here left top _ _ _ c.loop-cell.pen drawn)
     ] in
     record {

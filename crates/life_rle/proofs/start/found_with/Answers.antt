@@ -2,7 +2,7 @@ use Rattle.std.proofs.Common.{◌≡◌, true, false, not, inl, inr, sym, ap, �
 use Rattle.text_lines.specs.Blanks.{IsPassedOver}
 use Rattle.life_rle.specs.Text.{gives_place}
 use Rattle.life_rle.proofs.Lined.{ends_short}
-use Rattle.life_rle.proofs.Starting.{opened_first, opened_again}
+use Rattle.life_rle.proofs.BeforeItems.{opened_first, opened_again}
 use Rattle.life_rle.proofs.start.found_with.Goals.{else-is_none-via-then-is_none+else-gives_place, else-is_none-via-else-is_none}
 use Rattle.life_rle.proofs.start.found_with.Goals as goal
 

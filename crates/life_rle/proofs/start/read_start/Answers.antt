@@ -4,7 +4,7 @@ use Rattle.std.proofs.lemmas.List.{nil_from_length}
 use Rattle.std.proofs.lemmas.Result.{err_from_is_err_and}
 use Rattle.life_rle.specs.Header.{IsHeader}
 use Rattle.life_rle.proofs.Lined.{some_of_false}
-use Rattle.life_rle.proofs.Starting.{no_lines, stops_at_header, body_from, stops_at_place}
+use Rattle.life_rle.proofs.BeforeItems.{no_lines, stops_at_header, body_from, stops_at_place}
 use Rattle.life_rle.proofs.start.read_start.Goals as goal
 
 pub returns-then-is_empty-clause-refusal : goal.returns-then-is_empty-clause-refusal

@@ -1,7 +1,7 @@
 use Rattle.std.proofs.Common.{ℕ, ◌+◌, ◌<◌, ◌^◌, List, arith, rules, length, subst, sym}
 use Rattle.life_rle.specs.Opened.{IsOpened}
 use Rattle.life_rle.proofs.Lined.{lines_end, some_of_false}
-use Rattle.life_rle.proofs.Starting.{number_small}
+use Rattle.life_rle.proofs.BeforeItems.{number_small}
 use Rattle.life_rle.proofs.start.skip_passed_over.Goals as goal
 
 pub found_with-place_line-requires-clause-ends : goal.found_with-place_line-requires-clause-ends

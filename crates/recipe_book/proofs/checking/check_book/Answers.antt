@@ -11,7 +11,8 @@ use Rattle.recipe_hit.specs.Checked.{Struck}
 use Rattle.recipe_book.specs.Entries.{AreTheSound}
 use Rattle.recipe_book.specs.ByShape.{IsIndex}
 use Rattle.recipe_book.specs.Refusals.{BookIsRefused, StatesRefuse}
-use Rattle.recipe_book.specs.Checked.{most_states, IsCheckedBook}
+use Rattle.recipe_book.specs.Checked.{IsCheckedBook}
+use Rattle.book_parts.specs.declared.limits.TheConstants.{MOST_STATES}
 use Rattle.recipe_book.proofs.Refusing.{states_refuse}
 use Rattle.recipe_book.proofs.AcceptedPart.{those_are_part, proper_part}
 use Rattle.recipe_book.proofs.Whole.{turns_checked, turns_own, salvos_checked, salvos_own}
@@ -45,7 +46,7 @@ invariant_of-checked g c =
               own = rw (← c.in_ok-kinds.ensures.kinds) (turns_own _ _ _ c.in_ok-turns.ensures.kept);
               salvos = salvos_checked _ _ c.in_ok-salvos.ensures.kept;
               own_salvos = rw (← c.in_ok-hand.ensures.same) (salvos_own _ _ c.in_ok-salvos.ensures.kept);
-              states = subst (λ (turns : List Checked). (count : ℕ) × HasStates (raws turns) c.book.inside.start c.book.inside.settings.span most_states count) c.deref.ensures.value c.in_ok-check_states.ensures.states;
+              states = subst (λ (turns : List Checked). (count : ℕ) × HasStates (raws turns) c.book.inside.start c.book.inside.settings.span MOST_STATES count) c.deref.ensures.value c.in_ok-check_states.ensures.states;
             }),
       ),
     )

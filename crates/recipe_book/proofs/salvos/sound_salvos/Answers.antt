@@ -3,7 +3,7 @@ use Rattle.std.specs.Vec.Iter.{into_iter_items, into_iter_len}
 use Rattle.life_cells.specs.Cells.{alive}
 use Rattle.recipe_book.specs.Accepting.{IsJudgedSalvo}
 use Rattle.recipe_book.specs.declared.verdict.Verdict.TheVariants.{Accepted, Salvo}
-use Rattle.recipe_book.proofs.JudgedSoFar.{begins, skips, takes, sound_at_end, verdicts_at_end, within, none_left, one_less}
+use Rattle.recipe_book.proofs.JudgedEntries.{begins, skips, takes, sound_at_end, verdicts_at_end, within, none_left, one_less}
 use Rattle.recipe_book.proofs.Judged.{SalvosSoFar, sound_salvo, unsound_salvo}
 use Rattle.recipe_book.proofs.salvos.sound_salvos.Goals as goal
 

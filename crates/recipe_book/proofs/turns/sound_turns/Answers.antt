@@ -2,7 +2,7 @@ use Rattle.std.proofs.Common.{[], ◌∷◌, subst, ◌∙◌}
 use Rattle.std.specs.Vec.Iter.{into_iter_items, into_iter_len}
 use Rattle.recipe_book.specs.Accepting.{IsJudgedTurn}
 use Rattle.recipe_book.specs.declared.verdict.Verdict.TheVariants.{Accepted, Turn}
-use Rattle.recipe_book.proofs.JudgedSoFar.{begins, skips, takes, sound_at_end, verdicts_at_end, within, none_left, one_less}
+use Rattle.recipe_book.proofs.JudgedEntries.{begins, skips, takes, sound_at_end, verdicts_at_end, within, none_left, one_less}
 use Rattle.recipe_book.proofs.Judged.{TurnsSoFar, sound_turn, unsound_turn}
 use Rattle.recipe_book.proofs.turns.sound_turns.Goals as goal
 

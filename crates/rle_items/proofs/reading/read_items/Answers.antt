@@ -1,6 +1,6 @@
 use Rattle.std.proofs.lemmas.Result.{err_from_is_err_and}
 use Rattle.rle_items.specs.Gaps.{gap_of}
-use Rattle.rle_items.proofs.SoFar.{so_far_start, stops_at_fault, has_room, has_moved, row_fits, so_far_push, so_far_read, rest_shorter}
+use Rattle.rle_items.proofs.ReadItems.{so_far_start, stops_at_fault, has_room, has_moved, row_fits, so_far_push, so_far_read, rest_shorter}
 use Rattle.rle_items.proofs.reading.read_items.Goals as goal
 
 pub loop-cells-init : goal.loop-cells-init

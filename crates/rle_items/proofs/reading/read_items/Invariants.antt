@@ -1,6 +1,6 @@
 use Rattle.std.proofs.Common.{length}
 use Rattle.rle_items.specs.Gaps.{gap_of}
-use Rattle.rle_items.proofs.SoFar.{IsSoFar}
+use Rattle.rle_items.proofs.ReadItems.{IsSoFar}
 use Rattle.rle_items.proofs.reading.read_items.Given as goal
 
 abbrev pub invariant-loop-cells : goal.invariant-loop-cells

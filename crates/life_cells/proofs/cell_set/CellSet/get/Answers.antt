@@ -1,6 +1,6 @@
 use Rattle.std.proofs.Common.{ap, ◌∙◌}
 use Rattle.std.specs.List.{slice_get}
-use Rattle.life_cells.proofs.Places.{copied_item}
+use Rattle.life_plane.specs.LookUpLaws.{copied_item}
 use Rattle.life_cells.proofs.cell_set.CellSet.get.Goals as goal
 
 pub returns : goal.returns

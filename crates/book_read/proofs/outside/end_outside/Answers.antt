@@ -1,5 +1,5 @@
 use Rattle.std.proofs.Common.{rules, [], ◌∷◌}
-use Rattle.book_read.proofs.outside.leaves_outside.Goals as goal
+use Rattle.book_read.proofs.outside.end_outside.Goals as goal
 use mir.Syntax.{w64}
 use Rattle.std.proofs.Common.{FitsSigned}
 use Rattle.std.proofs.lemmas.Int.{to_z-of_z}
