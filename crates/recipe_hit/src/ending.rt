@@ -31,14 +31,14 @@ pub(crate) fn hand_at(
     }
 }
 
-/// Whether a product is one island, or nothing.
-fn is_whole(alloc: Global, product: &CellSet) -> Result<bool, NoMemory>
-    ensures { IfOk result (λ whole. IsTrue whole ↔ IsWhole (alive product.now)) }
+/// Whether a set is one island, or nothing.
+pub fn is_whole(alloc: Global, cells: &CellSet) -> Result<bool, NoMemory>
+    ensures { IfOk result (λ whole. IsTrue whole ↔ IsWhole (alive cells.now)) }
 {
-    if product.is_empty() {
+    if cells.is_empty() {
         return Ok(true);
     }
-    is_one_island(alloc, product)
+    is_one_island(alloc, cells)
 }
 
 /// The first cell of a product within distance 2 of the hand.

@@ -21,8 +21,8 @@ use life_steps::Steps;
 use std::alloc::Global;
 use std::sync::ledger::Ledger;
 
-/// What the last of these hits leaves; the hand where there is none.
-pub(crate) fn left_by<'a>(hand: &'a CellSet, hits: &'a [Hit]) -> &'a CellSet
+/// What the last of these hits leaves; the hand where there is none. It takes no memory.
+pub fn left_by<'a>(hand: &'a CellSet, hits: &'a [Hit]) -> &'a CellSet
     ensures { alive result.now ≡ what_is_left (alive hand.now) hits.now }
 {
     match hits.last() {

@@ -4,11 +4,11 @@
 
 mod boxes;
 pub mod checked_salvo;
-mod ending;
+pub mod ending;
 pub mod frame;
 pub mod hand;
 pub mod hit;
-mod in_turn;
+pub mod in_turn;
 pub mod laws;
 pub mod limits;
 pub mod refusal;

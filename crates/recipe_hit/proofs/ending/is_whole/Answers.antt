@@ -3,7 +3,7 @@ use Rattle.recipe_hit.proofs.Comparisons.{if_ok, not_if_false}
 use Rattle.recipe_hit.proofs.ending.is_whole.Goals as goal
 
 pub returns-then-is_empty : goal.returns-then-is_empty
-returns-then-is_empty c = whole_if_empty c.args.product.now (c.is_empty.ensures.0 c.if-is_empty.true)
+returns-then-is_empty c = whole_if_empty c.args.cells.now (c.is_empty.ensures.0 c.if-is_empty.true)
 
 pub returns : goal.returns
-returns c = if_ok c.is_one_island.result _ _ (λ one decides. whole_if_island c.args.product.now one (not_if_false _ _ c.if-is_empty.false c.is_empty.ensures) decides) c.is_one_island.ensures
+returns c = if_ok c.is_one_island.result _ _ (λ one decides. whole_if_island c.args.cells.now one (not_if_false _ _ c.if-is_empty.false c.is_empty.ensures) decides) c.is_one_island.ensures
