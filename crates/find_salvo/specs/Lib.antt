@@ -2,4 +2,5 @@
 pub mod Parts
 pub mod Outcomes
 pub mod Salvos
+pub mod OutcomeLaws
 pub mod Kept

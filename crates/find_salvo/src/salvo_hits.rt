@@ -1,10 +1,12 @@
 //! Hits that are kept from list to list.
 
-ghost use Rattle.std.specs.Prelude.{◌≡◌, ◌+◌, ◌*◌, ◌++◌, ◌∷◌, [], ◌<◌, ◌≤◌, length, take, IsTrue, IsFalse, IfOk, IfSome, IfNone};
+ghost use Rattle.std.specs.Prelude.{◌≡◌, ◌+◌, ◌*◌, ◌++◌, ◌∷◌, [], ◌<◌, ◌≤◌, ◌^◌, length, take, IsTrue, IsFalse, IfOk, IfSome, IfNone};
 ghost use Rattle.std.specs.List.{AllByRecursion};
+ghost use Rattle.life_cells.specs.Boxes.{IsInRange};
 ghost use Rattle.life_cells.specs.Cells.{alive};
 ghost use Rattle.book_parts.specs.Limits.{IsCoordinate};
 ghost use Rattle.book_parts.specs.declared.limits.TheConstants.{MOST_LANES};
+ghost use Rattle.recipe_hit.specs.Strike.{IsHit};
 ghost use Rattle.recipe_hit.specs.Refusals.{HasNoHit};
 ghost use Rattle.recipe_hit.specs.declared.limits.TheConstants.{MOST_COUNTED};
 ghost use Rattle.find_salvo.specs.Salvos.{IsSalvoOutcome, HasNoSalvo};
@@ -12,7 +14,7 @@ ghost use Rattle.find_salvo.specs.Kept.{lanes_of, left_so_far, IsKept};
 
 use crate::ending::outcome_of;
 use crate::outcome::Outcome;
-use life_cells::NoMemory;
+use life_cells::{CellSet, NoMemory};
 use life_steps::Steps;
 use recipe_hit::in_turn::left_by;
 use recipe_hit::striking::hit;
@@ -85,6 +87,7 @@ impl<'a> SalvoHits<'a> {
         ensures hand { self.new.hand ≡ self.old.hand }
         ensures within { result ≤ length lanes.now }
         ensures hits { lanes_of self.new.hits ≡ take result lanes.now }
+        ensures kept { IsKept self.new }
     {
         let shared = shared_lanes(&self.hits, lanes);
         if shared < self.hits.len() {
@@ -113,18 +116,40 @@ impl<'a> SalvoHits<'a> {
         if self.missing == Some(lane) {
             return Ok(false);
         }
-        match hit(alloc, left_by(self.hand.cells(), &self.hits), lane, steps) {
-            Ok(hit) => {
+        let left = left_by(self.hand.cells(), &self.hits);
+        match hit_of(alloc, left, lane, steps)? {
+            Some(hit) => {
                 self.hits.push(hit)?;
                 self.missing = None;
                 Ok(true)
             }
-            Err(HitRefusal::Memory) => Err(NoMemory),
-            Err(_) => {
+            None => {
                 self.missing = Some(lane);
                 Ok(false)
             }
         }
+    }
+}
+
+// The hit of a glider of a lane with what is left; None exactly where it has none.
+fn hit_of<L: Ledger>(
+    alloc: Global,
+    left: &CellSet,
+    lane: i64,
+    steps: &mut Steps<L>,
+) -> Result<Option<Hit>, NoMemory>
+    requires range { IsInRange (2 ^ 40) (alive left.now) }
+    requires lane { IsCoordinate lane }
+    ensures some { IfOk result (λ found. IfSome found (IsHit (alive left.now) lane)) }
+    ensures none { IfOk result (λ found. IfNone found (HasNoHit (alive left.now) lane)) }
+    ensures least { steps.old ≤ steps.new }
+    ensures most { steps.new ≤ steps.old + MOST_COUNTED }
+{
+    match hit(alloc, left, lane, steps) {
+        Ok(hit) => Ok(Some(hit)),
+        Err(HitRefusal::Empty) => Ok(None),
+        Err(HitRefusal::NotSettled { .. }) => Ok(None),
+        Err(HitRefusal::Memory) => Err(NoMemory),
     }
 }
 
@@ -134,8 +159,10 @@ fn shared_lanes(hits: &[Hit], lanes: &[i64]) -> usize
     ensures lanes { result ≤ length lanes.now }
     ensures shared { take result (lanes_of hits.now) ≡ take result lanes.now }
 {
-    hits.iter()
-        .zip(lanes)
-        .take_while(|(hit, lane)| hit.frame.lane == **lane)
-        .count()
+    for (place, hit) in hits.iter().enumerate() {
+        if place == lanes.len() || lanes[place] != hit.frame.lane {
+            return place;
+        }
+    }
+    hits.len()
 }

@@ -1,8 +1,8 @@
 //! Where a hand stands in what is left.
 
-ghost use Rattle.std.specs.Prelude.{◌≡◌, ◌↔◌, ◌^◌, IsTrue, IfOk, IfSome, IfNone};
+ghost use Rattle.std.specs.Prelude.{◌≡◌, ◌↔◌, ◌^◌, ◌-ℤ◌, ◌+ℤ◌, IsTrue, IfOk, IfSome, IfNone};
 ghost use Rattle.life_cells.specs.Boxes.{IsInRange, IsCellInRange};
-ghost use Rattle.life_cells.specs.Cells.{alive};
+ghost use Rattle.life_cells.specs.Cells.{alive, cell};
 ghost use Rattle.life_islands.specs.Islands.{rest_of};
 ghost use Rattle.book_parts.specs.Proper.{IsProperHand};
 ghost use Rattle.find_salvo.specs.Parts.{IsPartOf};
@@ -37,12 +37,22 @@ pub(crate) fn first_stand(
         return Ok(None);
     };
     for cell in left.cells() {
-        let place = Cell::new(cell.x - first.x, cell.y - first.y);
+        let place = place_from(first, *cell);
         if let Some(rest) = rest_beside(alloc, hand, left, place)? {
             return Ok(Some(Stand { place, rest }));
         }
     }
     Ok(None)
+}
+
+/// The place of the hand at which its first cell comes to another.
+fn place_from(first: Cell, to: Cell) -> Cell
+    requires first { IsCellInRange (2 ^ 40) first }
+    requires to { IsCellInRange (2 ^ 40) to }
+    ensures place { result ≡ cell (to.x -ℤ first.x) (to.y -ℤ first.y) }
+    ensures near { IsCellInRange (2 ^ 41) result }
+{
+    Cell::new(to.x - first.x, to.y - first.y)
 }
 
 /// What is left beside the hand at a place; None exactly where it doesn't stand there.
@@ -79,11 +89,20 @@ fn lies_in(hand: &CellSet, left: &CellSet, place: Cell) -> bool
     ensures { IsTrue result ↔ IsPartOf (hand_at (alive hand.now) place) (alive left.now) }
 {
     for cell in hand.cells() {
-        if !left.contains(Cell::new(cell.x + place.x, cell.y + place.y)) {
+        if !left.contains(moved_to(place, *cell)) {
             return false;
         }
     }
     true
+}
+
+/// Where a cell of the hand comes to at a place.
+fn moved_to(place: Cell, at: Cell) -> Cell
+    requires place { IsCellInRange (2 ^ 41) place }
+    requires at { IsCellInRange (2 ^ 41) at }
+    ensures { result ≡ cell (at.x +ℤ place.x) (at.y +ℤ place.y) }
+{
+    Cell::new(at.x + place.x, at.y + place.y)
 }
 
 /// The cells of a set that are not in another.
