@@ -1,0 +1,4 @@
+-- Lemmas about the sample.
+pub mod Cells
+pub mod Naming
+pub mod Properness
