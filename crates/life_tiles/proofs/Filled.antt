@@ -22,17 +22,7 @@ use Rattle.life_tiles.specs.Stepping.{IsAsleep, IsGrid, IsSteppedTile, IsMarkedT
 use Rattle.life_tiles.proofs.Bits.{no_bit_set}
 use Rattle.life_tiles.proofs.Stepped.{cell_at, about-4, bit_stepped, wake_reaches}
 use Rattle.life_tiles.proofs.Tiling.{index_is, index_at_most}
-use Rattle.life_tiles.proofs.Woken.{wakes_none, wakes_both, set_here, set_there}
-
--- a row is among some rows, or it is not
-pub in_or_out : (s : Span) (row : ℕ) → (InSpan s row) ⊎ (InSpan s row → ⊥)
-in_or_out s row = elim (cases_lt row s.from) [
-  | inl before ↦ inr (λ h. let from = h.from in omega arith)
-  | inr from ↦ elim (cases_lt row s.to) [
-    | inl to ↦ inl (record { from = from; to = to })
-    | inr past ↦ inr (λ h. let to = h.to in omega arith)
-  ]
-]
+use Rattle.life_tiles.proofs.Woken.{in_or_out, wakes_none, wakes_both, set_here, set_there}
 
 unchanged : (a b : Bool) → xor a b ≡ false → b ≡ a
 unchanged true true h = refl

@@ -14,7 +14,7 @@ use Rattle.life_tiles.specs.Spans.{InSpan, IsAwake, span_of}
 use Rattle.life_tiles.specs.Stepping.{IsSettled}
 use Rattle.life_tiles.specs.Tiling.{place, index_of, neighbour, HasTile, HasNeighbour, IsLink, IsWithin, IsTiled, OnlyMakes, IsSurrounded, IsClosed, cells_of}
 use Rattle.life_tiles.proofs.Beside.{beside}
-use Rattle.life_tiles.proofs.Filled.{in_or_out}
+use Rattle.life_tiles.proofs.Woken.{in_or_out}
 use Rattle.life_tiles.proofs.Stepped.{cell_at}
 use Rattle.life_tiles.proofs.Tiling.{tile_at_index, live_index}
 

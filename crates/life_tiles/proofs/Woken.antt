@@ -1,5 +1,5 @@
 -- Rows that wake.
-use Rattle.std.proofs.Common.{◌≡◌, ◌≢◌, ℕ, nat_eq, ◌+◌, ◌<◌, ◌≤◌, Bool, true, false, List, length, set, refl, sym, subst, ◌∙◌, arith, inl, inr}
+use Rattle.std.proofs.Common.{◌≡◌, ◌≢◌, ◌⊎◌, ℕ, nat_eq, ◌+◌, ◌<◌, ◌≤◌, Bool, true, false, List, length, set, refl, sym, subst, ◌∙◌, arith, inl, inr}
 use Rattle.std.proofs.lemmas.Bool.{cases_lt}
 use Rattle.std.proofs.lemmas.List.{get_or-set_other, get_or-set_same, length-set}
 use Rattle.life_tiles.specs.declared.span.Span.{Span}
@@ -62,4 +62,14 @@ all_more spans i s within all before j row lt h = elim (cases_lt j i) [
   | inr ge ↦
       let same : i ≡ j = omega arith in
       subst (λ k. IsAwake (set spans i s) k row) same (subst (λ (t : Span). InSpan t row) (sym (set_here spans i s within)) (all row h))
+]
+
+-- a row is among some rows, or it is not
+pub in_or_out : (s : Span) (row : ℕ) → (InSpan s row) ⊎ (InSpan s row → ⊥)
+in_or_out s row = elim (cases_lt row s.from) [
+  | inl before ↦ inr (λ h. let from = h.from in omega arith)
+  | inr from ↦ elim (cases_lt row s.to) [
+    | inl to ↦ inl (record { from = from; to = to })
+    | inr past ↦ inr (λ h. let to = h.to in omega arith)
+  ]
 ]

@@ -3,6 +3,7 @@ pub mod Tiled
 pub mod Tiling
 pub mod Spans
 pub mod Rows
+pub mod LiveRows
 pub mod Stepping
 pub mod Pruning
 pub mod CourseLaws

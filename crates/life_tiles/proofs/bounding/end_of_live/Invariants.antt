@@ -1,0 +1,5 @@
+use Rattle.std.proofs.Common.{◌≡◌, ◌+◌, ◌<◌, ◌≤◌, ℕ, slice_index}
+use Rattle.life_tiles.proofs.bounding.end_of_live.Given as goal
+
+abbrev pub invariant-loop-down : goal.invariant-loop-down
+invariant-loop-down l = (row : ℕ) → row < 64 → l.down ≤ row → slice_index l.rows (l.first + row) ≡ 0
