@@ -25,9 +25,9 @@ walk_more labels place at read after mark prior was some is grown =
     record {
       within = omega (arith, was.within);
       split = λ lists labelled.
-          let step : get_or lists at [] ≡ get_or lists mark.before [] ++ mark.number ∷ [] =
+          let lead : get_or lists at [] ≡ get_or lists mark.before [] ++ mark.number ∷ [] =
           ap (λ k. get_or lists k []) (sym (one_back at some)) ∙ labelled.next (at - 1) (omega (arith, was.within)) ∙ ap (list_by lists) (sym is) in
-          was.split lists labelled ∙ ap (λ xs. xs ++ reverse read) step ∙ append_assoc (get_or lists mark.before []) (mark.number ∷ []) (reverse read)
+          was.split lists labelled ∙ ap (λ xs. xs ++ reverse read) lead ∙ append_assoc (get_or lists mark.before []) (mark.number ∷ []) (reverse read)
           ∙ ap (λ xs. get_or lists mark.before [] ++ xs) (sym (reverse-append read (mark.number ∷ [])) ∙ ap reverse (sym grown));
     }
 

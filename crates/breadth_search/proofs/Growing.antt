@@ -2,35 +2,20 @@
 use Rattle.std.proofs.Common.{◌≡◌, ◌⊎◌, ℕ, zero, suc, ◌+◌, ◌-◌, ◌<◌, ◌≤◌, List, [], ◌∷◌, ◌++◌, length, get_or, Bool, true, false, MatchBool, IfNone, IfSome, Option, Some, None, inl, inr, sym, ap, subst, ◌∙◌, arith}
 use Rattle.std.specs.List.{slice_get, Contains}
 use Rattle.std.proofs.lemmas.List.{get_or_append_left, get_or_default}
-use Rattle.std.proofs.lemmas.List.Sums.{fold_push}
 use Rattle.std.proofs.lemmas.Option.{slice_get_within, get_or_from_slice_get}
 use Rattle.life_plane.specs.NumberLaws.{lt_or_same}
 use Rattle.breadth_search.specs.declared.found.Label.{Label}
-use Rattle.breadth_search.specs.declared.graph.Step.{Step}
+use Rattle.breadth_search.specs.declared.graph.Lead.{Lead}
 use Rattle.breadth_search.specs.Labels.{label, with_list, lists_of, IsAdded, IsSame}
 use Rattle.breadth_search.specs.Search.{first_of, bound_past, IsLast, IsSearched, IsSearching, IsKept}
-use Rattle.breadth_search.specs.Steps.{IsStep}
-use Rattle.breadth_search.proofs.ByBreadth.{breadth_begins, breadth_stays, breadth_grows, breadth_turns}
-
-lists_more : (labels : List Label) (mark : Label) → with_list (lists_of labels) mark ≡ lists_of (labels ++ mark ∷ [])
-lists_more labels mark = sym (fold_push with_list ([] ∷ []) labels mark)
+use Rattle.breadth_search.specs.Leads.{IsLead}
+use Rattle.breadth_search.specs.SearchLaws.{lists_more, breadth_begins, breadth_stays, breadth_grows, breadth_turns}
 
 pub when_true : (P Q : Type 0) (b : Bool) → b ≡ true → MatchBool b P Q → P
 when_true P Q b is h = let R : Bool → Type 0 = λ c. MatchBool c P Q in subst R is h
 
 pub when_false : (P Q : Type 0) (b : Bool) → b ≡ false → MatchBool b P Q → Q
 when_false P Q b is h = let R : Bool → Type 0 = λ c. MatchBool c P Q in subst R is h
-
-pub when_none : {X : Type 0} (P : Type 0) (o : Option X) → o ≡ None → IfNone o P → P
-when_none {X} P o is h = let R : Option X → Type 0 = λ p. IfNone p P in subst R is h
-
-pub when_some : {X : Type 0} (P : X → Type 0) (o : Option X) (x : X) → o ≡ Some x → IfSome o P → P x
-when_some {X} P o x is h = let R : Option X → Type 0 = λ p. IfSome p P in let there : IfSome (Some x) P = subst R is h in there
-
-pub past_end : {X : Type 0} (xs : List X) (k : ℕ) → None ≡ slice_get xs k → length xs ≤ k
-past_end [] k h = omega arith
-past_end (x ∷ xs) zero h = absurd (cc)
-past_end (x ∷ xs) (suc k) h = let rest = past_end xs k h in omega arith
 
 -- a place less is left
 pub fewer_left : {X : Type 0} (xs ys : List X) (k : ℕ) (x : X) → slice_get xs k ≡ Some x → xs ≡ ys → length ys - (k + 1) < length ys - k
@@ -71,41 +56,41 @@ module _ {S : Type 0} (Next : ℕ → S → S → Type 0) where
     pub last_here : IsLast Next at number
     last_here = subst (λ a. IsLast Next a number) here_is was.last
 
-    module _ (step : Step S) (first : IsStep Next at (bound_past number) step) where
-      leads_here : Next step.number (get_or states place from) step.to
-      leads_here = subst (λ a. Next step.number a step.to) (sym here_is) first.leads
+    module _ (lead : Lead S) (first : IsLead Next at (bound_past number) lead) where
+      leads_here : Next lead.number (get_or states place from) lead.to
+      leads_here = subst (λ a. Next lead.number a lead.to) (sym here_is) first.leads
 
       -- it leads to a state that had no label
-      pub step_adds : (states_after : List S) (labels_after : List Label) → IsAdded step.to (label place step.number) states labels states_after labels_after →
-          IsSearching Next from place (Some step.number) states_after labels_after
-      step_adds states_after labels_after added =
-          subst (λ xs. IsSearching Next from place (Some step.number) xs labels_after) (sym added.states_are)
-          (subst (λ ls. IsSearching Next from place (Some step.number) (states ++ step.to ∷ []) ls) (sym added.labels_are)
+      pub lead_adds : (states_after : List S) (labels_after : List Label) → IsAdded lead.to (label place lead.number) states labels states_after labels_after →
+          IsSearching Next from place (Some lead.number) states_after labels_after
+      lead_adds states_after labels_after added =
+          subst (λ xs. IsSearching Next from place (Some lead.number) xs labels_after) (sym added.states_are)
+          (subst (λ ls. IsSearching Next from place (Some lead.number) (states ++ lead.to ∷ []) ls) (sym added.labels_are)
           (record {
-            searched = subst (λ js. IsSearched Next from place (suc step.number) (states ++ step.to ∷ []) (labels ++ label place step.number ∷ []) js) (lists_more labels (label place step.number))
-                (breadth_grows Next from place (bound_past number) step.number states labels (lists_of labels) step.to was.searched small first.up leads_here
-                (λ to leads. first.only to (subst (λ a. Next step.number a to) here_is leads))
+            searched = subst (λ js. IsSearched Next from place (suc lead.number) (states ++ lead.to ∷ []) (labels ++ label place lead.number ∷ []) js) (lists_more labels (label place lead.number))
+                (breadth_grows Next from place (bound_past number) lead.number states labels (lists_of labels) lead.to was.searched small first.up leads_here
+                (λ to leads. first.only to (subst (λ a. Next lead.number a to) here_is leads))
                 (λ k to low high leads. first.least k to low high (subst (λ a. Next k a to) here_is leads)));
-            last = (step.to, subst (λ a. Next step.number a step.to) (sym (get_or_append_left states (step.to ∷ []) from place small)) leads_here);
+            last = (lead.to, subst (λ a. Next lead.number a lead.to) (sym (get_or_append_left states (lead.to ∷ []) from place small)) leads_here);
           }))
 
       -- it leads to a state that had one
-      pub step_stays : (states_after : List S) (labels_after : List Label) → IsSame states labels states_after labels_after → Contains states step.to → IsSearching Next from place (Some step.number) states_after labels_after
-      step_stays states_after labels_after same known =
-          same_searching from place (Some step.number) states states_after labels labels_after same
+      pub lead_stays : (states_after : List S) (labels_after : List Label) → IsSame states labels states_after labels_after → Contains states lead.to → IsSearching Next from place (Some lead.number) states_after labels_after
+      lead_stays states_after labels_after same known =
+          same_searching from place (Some lead.number) states states_after labels labels_after same
           (record {
-            searched = breadth_stays Next from place (bound_past number) (suc step.number) states labels (lists_of labels) was.searched small (let up = first.up in omega arith)
-                (λ k to low high leads. by k to (lt_or_same k step.number (omega arith)) low leads);
-            last = (step.to, leads_here);
+            searched = breadth_stays Next from place (bound_past number) (suc lead.number) states labels (lists_of labels) was.searched small (let up = first.up in omega arith)
+                (λ k to low high leads. by k to (lt_or_same k lead.number (omega arith)) low leads);
+            last = (lead.to, leads_here);
           })
         where
-          by : (k : ℕ) (to : S) → (k < step.number) ⊎ (k ≡ step.number) → bound_past number ≤ k → Next k (get_or states place from) to → Contains states to
+          by : (k : ℕ) (to : S) → (k < lead.number) ⊎ (k ≡ lead.number) → bound_past number ≤ k → Next k (get_or states place from) to → Contains states to
           by k to (inl less) low leads = absurd (first.least k to low less (subst (λ a. Next k a to) here_is leads))
           by k to (inr is) low leads = subst (Contains states) (sym (first.only to (subst (λ j. Next j at to) is (subst (λ a. Next k a to) here_is leads)))) known
 
     -- no number is left: it is the next state's turn
-    pub step_turns : ((k : ℕ) (to : S) → bound_past number ≤ k → Next k at to → ⊥) → IsSearching Next from (place + 1) None states labels
-    step_turns over = record {
+    pub place_turns : ((k : ℕ) (to : S) → bound_past number ≤ k → Next k at to → ⊥) → IsSearching Next from (place + 1) None states labels
+    place_turns over = record {
       searched = breadth_turns Next from place (bound_past number) states labels (lists_of labels) (λ k to low leads. over k to low (subst (λ a. Next k a to) here_is leads)) was.searched small;
       last = tt;
     }
@@ -119,4 +104,4 @@ kept_from Next eq from at place place_after number last states states_after labe
 -- it is the next state's turn
 pub kept_turns : {S : Type 0} (Next : ℕ → S → S → Type 0) (eq : S → S → Bool) (from at : S) (place : ℕ) (last : Option ℕ) (states : List S) (labels : List Label) →
     IsKept Next eq from place last states labels → slice_get states place ≡ Some at → ((k : ℕ) (to : S) → bound_past last ≤ k → Next k at to → ⊥) → IsKept Next eq from (place + 1) None states labels
-kept_turns Next eq from at place last states labels was here over = record { searching = step_turns Next from at place last states labels was.searching here over; distinct = was.distinct }
+kept_turns Next eq from at place last states labels was here over = record { searching = place_turns Next from at place last states labels was.searching here over; distinct = was.distinct }

@@ -8,7 +8,7 @@ use Rattle.breadth_search.specs.Labelled.{Labelled}
 use Rattle.breadth_search.specs.Labels.{lists_of, AreLabelled}
 use Rattle.breadth_search.specs.Search.{IsKept}
 use Rattle.breadth_search.specs.Walks.{IsLeastTo, IsReached}
-use Rattle.breadth_search.proofs.Finding.{are_first, whole}
+use Rattle.breadth_search.specs.SearchedLaws.{are_first, whole}
 
 abbrev pub labelled : {G S : Type 0} → G → S → List S → List Label → ℕ → Labelled G S
 labelled graph from states labels tried = record { graph = graph; from = from; states = states; lists = lists_of labels; tried = tried }

@@ -105,24 +105,21 @@ before_with js ks j k (inr h) = let e = h.0 in inr (omega (arith, length-append 
 pub before_last : (js : List ℕ) (j k : ℕ) → j < k → IsBefore (js ++ j ∷ []) (js ++ k ∷ [])
 before_last js j k lt = inr (omega (arith, length-append js (j ∷ []), length-append js (k ∷ [])), earlier_last js j k lt)
 
+lt_or_is : (j k : ℕ) → j ≤ k → (j < k) ⊎ (j ≡ k)
+lt_or_is j k le = grind arith
+
 -- a lesser number behind the first, or the same
 pub at_most_last : (js : List ℕ) (j k : ℕ) → j ≤ k → IsAtMost (js ++ j ∷ []) (js ++ k ∷ [])
-at_most_last js j k le = by (le_split j k le)
+at_most_last js j k le = by (lt_or_is j k le)
   where
-    le_split : (j k : ℕ) → j ≤ k → (j < k) ⊎ (j ≡ k)
-    le_split j k le = grind arith
-
     by : (j < k) ⊎ (j ≡ k) → IsAtMost (js ++ j ∷ []) (js ++ k ∷ [])
     by (inl lt) = at_most_from_before _ _ (before_last js j k lt)
     by (inr is) = subst (λ i. IsAtMost (js ++ j ∷ []) (js ++ i ∷ [])) is (at_most_itself (js ++ j ∷ []))
 
 -- a greater last number of the second
 pub before_up : (js ks : List ℕ) (j k : ℕ) → IsBefore js (ks ++ j ∷ []) → j ≤ k → IsBefore js (ks ++ k ∷ [])
-before_up js ks j k before le = by (le_split j k le)
+before_up js ks j k before le = by (lt_or_is j k le)
   where
-    le_split : (j k : ℕ) → j ≤ k → (j < k) ⊎ (j ≡ k)
-    le_split j k le = grind arith
-
     by : (j < k) ⊎ (j ≡ k) → IsBefore js (ks ++ k ∷ [])
     by (inl lt) = before_on js (ks ++ j ∷ []) (ks ++ k ∷ []) before (before_last ks j k lt)
     by (inr is) = subst (λ i. IsBefore js (ks ++ i ∷ [])) is before

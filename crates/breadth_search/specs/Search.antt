@@ -6,7 +6,7 @@ use Rattle.std.specs.declared.option.Option.TheVariants.{Some, None}
 use Rattle.breadth_search.specs.declared.found.Label.{Label}
 use Rattle.breadth_search.specs.ListOrder.{IsAtMost, IsBefore}
 use Rattle.breadth_search.specs.Walks.{LeadOn}
-use Rattle.breadth_search.specs.Steps.{LeadsOn}
+use Rattle.breadth_search.specs.Leads.{LeadsOn}
 use Rattle.breadth_search.specs.Labels.{AreLabelled, ArePrior, lists_of}
 
 -- the first of some states, or another where there are none

@@ -28,7 +28,7 @@ pub fn search<S: Key, G: Graph<S> + Ending<S>>(
     labelling.search(alloc, limit)
 }
 
-// The list of one number.
+/// The list of one number.
 fn list_of(alloc: Global, number: usize) -> Result<Vec<usize>, NoMemory>
     ensures { IfOk result (λ list. list.items ≡ number ∷ []) }
 {

@@ -1,11 +1,11 @@
 //! What a search by breadth asks of a graph: which numbers lead on from a state, and with which a list may end there.
 
 ghost use Rattle.std.specs.Prelude.{ℕ, suc};
-ghost use Rattle.breadth_search.specs.Steps.{IsFirstStep, IsFirstEnd, LeadsOn};
+ghost use Rattle.breadth_search.specs.Leads.{IsFirstLead, IsFirstEnd, LeadsOn};
 
 /// A number and the state to which it leads.
 #[derive(Clone, Copy, Debug)]
-pub struct Step<S> {
+pub struct Lead<S> {
     /// The number.
     pub number: usize,
     /// The state to which it leads.
@@ -18,13 +18,13 @@ pub trait Graph<S>: Drop {
     ghost leads: { Self → ℕ → S → S → Type 0 };
 
     /// The least number that leads on from a state, and where it leads.
-    fn first(&self, at: S) -> Option<Step<S>>
-        ensures { IsFirstStep (leads self.now) at 0 result };
+    fn first(&self, at: S) -> Option<Lead<S>>
+        ensures { IsFirstLead (leads self.now) at 0 result };
 
     /// The least number past one that leads on from a state, and where it leads.
-    fn after(&self, at: S, number: usize) -> Option<Step<S>>
+    fn after(&self, at: S, number: usize) -> Option<Lead<S>>
         requires { LeadsOn (leads self.now) at number }
-        ensures { IsFirstStep (leads self.now) at (suc number) result };
+        ensures { IsFirstLead (leads self.now) at (suc number) result };
 }
 
 /// Numbers with which a list may end.

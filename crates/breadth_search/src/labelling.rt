@@ -6,11 +6,11 @@ ghost use Rattle.breadth_search.specs.Labelled.{Labelled, labelled_code};
 ghost use Rattle.breadth_search.specs.First.{IsLabelling, IsGrown};
 ghost use Rattle.breadth_search.specs.Labels.{lists_of, IsAdded, IsSame};
 ghost use Rattle.breadth_search.specs.Search.{bound_past, first_of, IsLast, IsKept};
-ghost use Rattle.breadth_search.specs.Steps.{IsFirstStep};
+ghost use Rattle.breadth_search.specs.Leads.{IsFirstLead};
 ghost use Rattle.breadth_search.specs.Walks.{LeadOn, IsLeastTo, IsReached};
 
 use crate::found::{Found, Label};
-use crate::graph::{Graph, Step};
+use crate::graph::{Graph, Lead};
 use crate::key::Key;
 use life_cells::NoMemory;
 use std::alloc::Global;
@@ -23,8 +23,9 @@ pub struct Labelling<S: Key, G: Graph<S>> {
     graph: G,
     from: S,
     found: Found<S>,
-    // The place of the state whose turn it is, and the number that led on last from there.
+    /// The place of the state whose turn it is.
     place: usize,
+    /// The number that led on last from there.
     number: Option<usize>,
 }
 
@@ -168,7 +169,7 @@ impl<S: Key, G: Graph<S>> Labelling<S, G> {
         }
     }
 
-    // The place of a state; states are labelled until it is one of them. None exactly where it is not reached.
+    /// The place of a state; states are labelled until it is one of them. None exactly where it is not reached.
     fn find(&mut self, to: S) -> Result<Option<usize>, NoMemory>
         ensures graph { self.new.graph ≡ self.old.graph }
         ensures from { self.new.from ≡ self.old.from }
@@ -191,10 +192,10 @@ impl<S: Key, G: Graph<S>> Labelling<S, G> {
     }
 }
 
-// The next number that leads on from a state, past the one that did last.
-fn next_step<S: Key, G: Graph<S>>(graph: &G, at: S, last: Option<usize>) -> Option<Step<S>>
+/// The next number that leads on from a state, past the one that did last.
+fn next_lead<S: Key, G: Graph<S>>(graph: &G, at: S, last: Option<usize>) -> Option<Lead<S>>
     requires { IsLast (G.leads graph.now) at last }
-    ensures { IsFirstStep (G.leads graph.now) at (bound_past last) result }
+    ensures { IsFirstLead (G.leads graph.now) at (bound_past last) result }
 {
     match last {
         None => graph.first(at),
@@ -202,7 +203,7 @@ fn next_step<S: Key, G: Graph<S>>(graph: &G, at: S, last: Option<usize>) -> Opti
     }
 }
 
-// Tries the numbers that are left at a place, up to one that leads to a state that has no label yet.
+/// Tries the numbers that are left at a place, up to one that leads to a state that has no label yet.
 fn grow_at<S: Key, G: Graph<S>>(
     graph: &G,
     at: S,
@@ -218,15 +219,15 @@ fn grow_at<S: Key, G: Graph<S>>(
     ensures over { IfOk result (λ grown. IfNone grown ((k : ℕ) (to : S) → bound_past last.new ≤ k → G.leads graph.now k at to → ⊥)) }
     ensures err { OnErr result (IsSame found.old.states.keys found.old.labels.items found.new.states.keys found.new.labels.items) }
 {
-    'numbers: while let Some(step) = next_step(graph, at, *last) {
+    'numbers: while let Some(lead) = next_lead(graph, at, *last) {
         let label = Label {
             before: place,
-            number: step.number,
+            number: lead.number,
         };
-        let added = found.add(step.to, label)?;
-        *last = Some(step.number);
+        let added = found.add(lead.to, label)?;
+        *last = Some(lead.number);
         if added {
-            return Ok(Some(step.to));
+            return Ok(Some(lead.to));
         }
     }
     Ok(None)

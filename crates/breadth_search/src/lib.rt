@@ -12,7 +12,7 @@ pub mod outcome;
 
 pub use breadth::search;
 pub use found::{Label, list_by_labels};
-pub use graph::{Ending, Graph, Step};
+pub use graph::{Ending, Graph, Lead};
 pub use key::Key;
 pub use labelling::Labelling;
 pub use outcome::Outcome;

@@ -9,7 +9,7 @@ use crate::event::Event;
 use life_cells::NoMemory;
 use recipe_turn::CheckedTurn;
 
-// The gliders of the turn with this number, counted from 1; none where there is no such turn.
+/// The gliders of the turn with this number, counted from 1; none where there is no such turn.
 fn delays_of(turns: &[CheckedTurn], number: usize) -> u64
     ensures { result ≡ delays_of (item_of (raws turns.now) number) }
 {

@@ -10,7 +10,7 @@ ghost use Rattle.recipe_book.specs.ByShape.{Builds};
 use life_cells::Cell;
 use recipe_hit::CheckedSalvo;
 
-// A cell, moved back by another.
+/// A cell, moved back by another.
 fn less(cell: Cell, by: Cell) -> Cell
     requires cell { IsCellInRange (2 ^ 40) cell }
     requires by { IsCellInRange (2 ^ 40) by }

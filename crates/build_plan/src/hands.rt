@@ -21,7 +21,7 @@ pub(crate) fn is_in_room(room: Bounds, at: Cell) -> bool
     right_of_left & below_top & left_of_right & above_bottom
 }
 
-// A place, moved so far.
+/// A place, moved so far.
 fn moved(from: Cell, by: Cell) -> Cell
     requires from { IsCellInRange (2 ^ 50) from }
     requires x { IsCoordinate by.x }

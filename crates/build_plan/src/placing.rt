@@ -18,7 +18,7 @@ pub struct Placing {
     pub room: Bounds,
 }
 
-// The move that brings the lower left corner of a box to the book's corner.
+/// The move that brings the lower left corner of a box to the book's corner.
 fn to_corner(settings: &Settings, bounds: Bounds) -> Cell
     requires settings { AreProper settings.now }
     requires bounds { IsBoxInRange (2 ^ 40) bounds }
@@ -30,7 +30,7 @@ fn to_corner(settings: &Settings, bounds: Bounds) -> Cell
     )
 }
 
-// A box, moved by this and made wider by the room on each side.
+/// A box, moved by this and made wider by the room on each side.
 fn room_about(settings: &Settings, by: Cell, bounds: Bounds) -> Bounds
     requires settings { AreProper settings.now }
     requires by { IsCellInRange (2 ^ 41) by }

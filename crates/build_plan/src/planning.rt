@@ -48,7 +48,7 @@ pub fn plan(alloc: Global, book: &CheckedBook, target: &Target) -> Result<Plan, 
     plan_for(alloc, &planner, &islands)
 }
 
-// The plan for islands, which are where the target is built.
+/// The plan for islands, which are where the target is built.
 fn plan_for(alloc: Global, planner: &Planner, islands: &[Island]) -> Result<Plan, PlanError>
     requires planner { IsPlanner planner.now }
     requires islands { AreNear islands.now }
@@ -59,7 +59,7 @@ fn plan_for(alloc: Global, planner: &Planner, islands: &[Island]) -> Result<Plan
     close(alloc, planner, draft)
 }
 
-// Takes a salvo for each of the islands.
+/// Takes a salvo for each of the islands.
 fn build_all(alloc: Global, planner: &Planner, islands: &[Island]) -> Result<Draft, PlanError>
     requires planner { IsPlanner planner.now }
     requires islands { AreNear islands.now }
@@ -73,7 +73,7 @@ fn build_all(alloc: Global, planner: &Planner, islands: &[Island]) -> Result<Dra
     Ok(draft)
 }
 
-// Takes a salvo for the island at a place, where those before it are built.
+/// Takes a salvo for the island at a place, where those before it are built.
 fn build_next(
     alloc: Global,
     planner: &Planner,

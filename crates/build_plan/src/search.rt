@@ -48,7 +48,7 @@ pub(crate) struct Search<'a> {
     pub(crate) corner: Cell,
 }
 
-// Whether the hand may stand there as a salvo begins, and where the salvo leaves it: in the room, and gone only where no island is left.
+/// Whether the hand may stand there as a salvo begins, and where the salvo leaves it: in the room, and gone only where no island is left.
 fn has_room(room: Bounds, salvo: &CheckedSalvo, at: Cell, is_last: bool) -> bool
     requires { IsBoxInRange (2 ^ 50) room }
     ensures { IsTrue result ↔ HasRoom room at (leaves_hand salvo.now at) is_last }
@@ -62,7 +62,7 @@ fn has_room(room: Bounds, salvo: &CheckedSalvo, at: Cell, is_last: bool) -> bool
     }
 }
 
-// The gliders of the salvos that carry the hand to a place, and of the salvo there.
+/// The gliders of the salvos that carry the hand to a place, and of the salvo there.
 fn throws_for(
     alloc: Global,
     book: &CheckedBook,
@@ -85,8 +85,8 @@ fn throws_for(
 }
 
 impl Search<'_> {
-    // Adds to what was walked the events of the salvos that carry the hand to a place, and of the salvo there; false where there is no way, or
-    // a lane has no list of turns.
+    /// Adds to what was walked the events of the salvos that carry the hand to a place, and of the salvo there; false where there is no way, or
+    /// a lane has no list of turns.
     fn walk_to(
         &mut self,
         alloc: Global,
@@ -112,14 +112,14 @@ impl Search<'_> {
         Ok(all)
     }
 
-    // Whether no island is left after the first.
+    /// Whether no island is left after the first.
     fn is_last(&self) -> bool
         ensures { IsTrue result ↔ (length self.now.left.now ≡ 1) }
     {
         self.left.len() == 1
     }
 
-    // Whether a salvo may begin with the hand there: the hand has room, and each hit is clear of what is built.
+    /// Whether a salvo may begin with the hand there: the hand has room, and each hit is clear of what is built.
     fn may_begin(&self, salvo: &CheckedSalvo, at: Cell) -> bool
         requires search { IsSearch self.now }
         requires at { IsCellInRange (2 ^ 41) at }
@@ -132,7 +132,7 @@ impl Search<'_> {
         is_salvo_clear(planner.book.settings(), self.built, salvo, at)
     }
 
-    // What is built with the first island left.
+    /// What is built with the first island left.
     fn built_after(&self, alloc: Global) -> Result<BuiltSet, NoMemory>
         requires { IsSearch self.now }
         ensures { IfOk result (λ built. alive built ≡ built_with self.now) }
@@ -141,15 +141,15 @@ impl Search<'_> {
         built.with(&self.left[0].cells)
     }
 
-    // The hand that needs a farewell: one that is left where no island is.
+    /// The hand that needs a farewell: one that is left where no island is.
     fn last_hand(&self, hand: Option<Cell>) -> Option<Cell>
         ensures { IsLastHand self.now.left.now hand result }
     {
         if self.is_last() { hand } else { None }
     }
 
-    // How a salvo is used whose events lead to this elbow: the last one with the farewell of the hand that it leaves. None where that hand
-    // has no farewell.
+    /// How a salvo is used whose events lead to this elbow: the last one with the farewell of the hand that it leaves. None where that hand
+    /// has no farewell.
     fn trial(
         &self,
         alloc: Global,
@@ -181,8 +181,8 @@ impl Search<'_> {
         }))
     }
 
-    // Tries the salvo with this number: its events, and those of the salvos that carry the hand to its place, are added to what was walked.
-    // None where it isn't usable; what was added then is of no use.
+    /// Tries the salvo with this number: its events, and those of the salvos that carry the hand to its place, are added to what was walked.
+    /// None where it isn't usable; what was added then is of no use.
     fn try_salvo(
         &mut self,
         alloc: Global,

@@ -15,7 +15,7 @@ use life_cells::NoMemory;
 use recipe_book::CheckedBook;
 use std::alloc::Global;
 
-// The hit of a glider.
+/// The hit of a glider.
 fn hit_event(throw: Throw) -> Event
     ensures { result ≡ hit_event throw }
 {
@@ -26,8 +26,8 @@ fn hit_event(throw: Throw) -> Event
     }
 }
 
-// The least list of the book's turns that throws on a lane, by their numbers; none where no list does. The graph is that of the book's
-// turns.
+/// The least list of the book's turns that throws on a lane, by their numbers; none where no list does. The graph is that of the book's
+/// turns.
 fn list_to_lane(
     alloc: Global,
     book: &CheckedBook,
@@ -42,7 +42,7 @@ fn list_to_lane(
     least_to_lane(alloc, graph, from, lane, book.settings().span)
 }
 
-// The least list of the book's turns for a glider's lane.
+/// The least list of the book's turns for a glider's lane.
 fn list_to_throw(
     alloc: Global,
     book: &CheckedBook,

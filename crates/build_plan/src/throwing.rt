@@ -15,7 +15,7 @@ use life_cells::{Cell, NoMemory};
 use recipe_book::CheckedBook;
 use recipe_hit::{CheckedSalvo, Hit};
 
-// The glider for a hit of a salvo, both by their numbers from 1 on.
+/// The glider for a hit of a salvo, both by their numbers from 1 on.
 fn throw_for(salvo: usize, place: usize, hit: &Hit, at: Cell) -> Throw
     requires hit { IsSmallFrame hit.now.frame }
     requires at { IsCellInRange (2 ^ 50) at }

@@ -21,7 +21,7 @@ pub(crate) struct Walk {
     pub(crate) events: Vec<Event>,
 }
 
-// Where a turn of this end moves the elbow; one that closes it moves it nowhere.
+/// Where a turn of this end moves the elbow; one that closes it moves it nowhere.
 fn moved_by(end: TurnEnd, from: Elbow) -> Elbow
     requires { IsNearEnd (pos (2 ^ 27)) end from }
     ensures { result ≡ moved_by end from }
@@ -39,7 +39,7 @@ fn moved_by(end: TurnEnd, from: Elbow) -> Elbow
     }
 }
 
-// The turn with this number at the elbow.
+/// The turn with this number at the elbow.
 fn turn_event(number: usize, elbow: Elbow) -> Event
     ensures { result ≡ Turn number elbow.shift }
 {

@@ -5,10 +5,10 @@ use Rattle.std.proofs.lemmas.Bool.{cases_lt}
 use Rattle.life_plane.specs.ListLaws.{same_item}
 use Rattle.book_parts.specs.declared.turn.TurnEnd.{TurnEnd}
 use Rattle.book_parts.specs.declared.turn.TurnEnd.TheVariants.{Close, Move, Emit}
-use Rattle.breadth_search.specs.declared.graph.Step.{Step}
+use Rattle.breadth_search.specs.declared.graph.Lead.{Lead}
 use Rattle.breadth_search.specs.declared.outcome.Outcome.{Outcome}
 use Rattle.breadth_search.specs.declared.outcome.Outcome.TheVariants.{Route, Nowhere, More}
-use Rattle.breadth_search.specs.Steps.{IsFirstStep, IsFirstEnd, LeadsOn}
+use Rattle.breadth_search.specs.Leads.{IsFirstLead, IsFirstEnd, LeadsOn}
 use Rattle.elbow_graph.specs.declared.elbow.Elbow.{Elbow}
 use Rattle.elbow_graph.specs.declared.exit.Exit.{Exit}
 use Rattle.elbow_graph.specs.declared.goal.Goal.{Goal}
@@ -60,12 +60,12 @@ module _ (exits : List Exit) (span : ℤ) (goal : Goal) (at : Elbow) where
   turn_of_table number h = let by = leads_from_passes number h.0 h.1 in record { exit = by.exit; numbered = by.numbered; keyed = by.keyed }
 
   -- the first that leads on by the table is the first that passes
-  pub first_passes : (bound : ℕ) (answer : Option (Step Elbow)) → IsFirstStep (LeadsBy (passing_in goal) exits span (turn_key at.kind None)) at bound answer → IsFirstStep (Passes exits span goal) at bound answer
+  pub first_passes : (bound : ℕ) (answer : Option (Lead Elbow)) → IsFirstLead (LeadsBy (passing_in goal) exits span (turn_key at.kind None)) at bound answer → IsFirstLead (Passes exits span goal) at bound answer
   first_passes bound None none = λ k to low passes. none k to low (leads_from_passes k to passes)
-  first_passes bound (Some step) first = record {
+  first_passes bound (Some lead) first = record {
     up = first.up;
-    leads = passes_from_leads step.number step.to first.leads;
-    only = λ to passes. first.only to (leads_from_passes step.number to passes);
+    leads = passes_from_leads lead.number lead.to first.leads;
+    only = λ to passes. first.only to (leads_from_passes lead.number to passes);
     least = λ k to low high passes. first.least k to low high (leads_from_passes k to passes);
   }
 
@@ -159,20 +159,20 @@ module _ (exits : List Exit) (span : ℤ) (at : Elbow) (wanted relative : ℤ) (
     end = keyed_throw h.exit.kind h.exit.end span at.shift wanted relative (turn_key at.kind (Some relative)) to is refl h.keyed h.leads.leaves_it h.leads.near;
   }
 
-  pub none_throws : (answer : Option (Step Elbow)) → answer ≡ None → IsFirstStep (LeadsBy Throws exits span (turn_key at.kind (Some relative))) at 0 answer → (k : ℕ) → Ends exits span (goals.Lane wanted) k at → ⊥
+  pub none_throws : (answer : Option (Lead Elbow)) → answer ≡ None → IsFirstLead (LeadsBy Throws exits span (turn_key at.kind (Some relative))) at 0 answer → (k : ℕ) → Ends exits span (goals.Lane wanted) k at → ⊥
   none_throws answer none first k ends =
-      let over : IsFirstStep (LeadsBy Throws exits span (turn_key at.kind (Some relative))) at 0 None = subst (IsFirstStep (LeadsBy Throws exits span (turn_key at.kind (Some relative))) at 0) none first in
+      let over : IsFirstLead (LeadsBy Throws exits span (turn_key at.kind (Some relative))) at 0 None = subst (IsFirstLead (LeadsBy Throws exits span (turn_key at.kind (Some relative))) at 0) none first in
       let there = leads_from_ends k ends in
       over k there.0 (omega arith) there.1
 
-  pub first_throws : (answer : Option (Step Elbow)) (step : Step Elbow) → answer ≡ Some step → IsFirstStep (LeadsBy Throws exits span (turn_key at.kind (Some relative))) at 0 answer →
-      IsFirstEnd (Ends exits span (goals.Lane wanted)) at (Some step.number)
-  first_throws answer step some first =
-      let found : IsFirstStep (LeadsBy Throws exits span (turn_key at.kind (Some relative))) at 0 (Some step) = subst (IsFirstStep (LeadsBy Throws exits span (turn_key at.kind (Some relative))) at 0) some first in
-      (ends_from_leads step.number step.to found.leads, λ k ends. by k (leads_from_ends k ends) found.least (cases_lt k step.number))
+  pub first_throws : (answer : Option (Lead Elbow)) (lead : Lead Elbow) → answer ≡ Some lead → IsFirstLead (LeadsBy Throws exits span (turn_key at.kind (Some relative))) at 0 answer →
+      IsFirstEnd (Ends exits span (goals.Lane wanted)) at (Some lead.number)
+  first_throws answer lead some first =
+      let found : IsFirstLead (LeadsBy Throws exits span (turn_key at.kind (Some relative))) at 0 (Some lead) = subst (IsFirstLead (LeadsBy Throws exits span (turn_key at.kind (Some relative))) at 0) some first in
+      (ends_from_leads lead.number lead.to found.leads, λ k ends. by k (leads_from_ends k ends) found.least (cases_lt k lead.number))
     where
       by : (k : ℕ) → (to : Elbow) × LeadsBy Throws exits span (turn_key at.kind (Some relative)) k at to →
-          ((j : ℕ) (to : Elbow) → 0 ≤ j → j < step.number → LeadsBy Throws exits span (turn_key at.kind (Some relative)) j at to → ⊥) → (k < step.number) ⊎ (step.number ≤ k) → step.number ≤ k
+          ((j : ℕ) (to : Elbow) → 0 ≤ j → j < lead.number → LeadsBy Throws exits span (turn_key at.kind (Some relative)) j at to → ⊥) → (k < lead.number) ⊎ (lead.number ≤ k) → lead.number ≤ k
       by k there none (inl less) = absurd (none k there.0 (omega arith) less there.1)
       by k there none (inr le) = le
 

@@ -5,9 +5,9 @@ use Rattle.std.proofs.lemmas.Bool.{cases_lt}
 use Rattle.std.proofs.lemmas.Option.{slice_get_within}
 use Rattle.life_plane.specs.ListLaws.{same_item}
 use Rattle.life_plane.specs.NumberLaws.{lt_or_same}
-use Rattle.breadth_search.specs.declared.graph.Step.{Step}
+use Rattle.breadth_search.specs.declared.graph.Lead.{Lead}
 use Rattle.breadth_search.specs.Search.{bound_past}
-use Rattle.breadth_search.specs.Steps.{IsStep, IsFirstStep}
+use Rattle.breadth_search.specs.Leads.{IsLead, IsFirstLead}
 use Rattle.elbow_graph.specs.declared.elbow.Elbow.{Elbow}
 use Rattle.elbow_graph.specs.declared.exit.Exit.{Exit}
 use Rattle.elbow_graph.specs.declared.table.Table.{Table}
@@ -42,10 +42,10 @@ turn_named table exits key {past} number is h =
     let P : Option ℕ → Type 0 = λ o. IfSome o (IsTurnOf table exits key) in let there : IfSome (Some number) (IsTurnOf table exits key) = subst P is h in there
 
 -- by the table and the key that they are
-pub first_by : (used table : Table) (exits : List Exit) (span : ℤ) (used_key key : TurnKey) (at : Elbow) (bound : ℕ) (answer : Option (Step Elbow)) → used ≡ table → used_key ≡ key → IsFirstStep (LeadsBy used exits span used_key) at bound answer →
-    IsFirstStep (LeadsBy table exits span key) at bound answer
+pub first_by : (used table : Table) (exits : List Exit) (span : ℤ) (used_key key : TurnKey) (at : Elbow) (bound : ℕ) (answer : Option (Lead Elbow)) → used ≡ table → used_key ≡ key → IsFirstLead (LeadsBy used exits span used_key) at bound answer →
+    IsFirstLead (LeadsBy table exits span key) at bound answer
 first_by used table exits span used_key key at bound answer same same_key first =
-    subst (λ k. IsFirstStep (LeadsBy table exits span k) at bound answer) same_key (subst (λ t. IsFirstStep (LeadsBy t exits span used_key) at bound answer) same first)
+    subst (λ k. IsFirstLead (LeadsBy table exits span k) at bound answer) same_key (subst (λ t. IsFirstLead (LeadsBy t exits span used_key) at bound answer) same first)
 
 -- ---- the search for the first
 
@@ -104,8 +104,8 @@ module _ (table : Table) (exits : List Exit) (span : ℤ) (key : TurnKey) (at : 
     }
 
     -- it leads to an elbow
-    pub sought_found : (to : Elbow) (step : Step Elbow) → Leads span exit at to → step ≡ record { number = index + 1; to = to } → IsStep (LeadsBy table exits span key) at bound step
-    sought_found to step leads is = subst (IsStep (LeadsBy table exits span key) at bound) (sym is) (record {
+    pub sought_found : (to : Elbow) (lead : Lead Elbow) → Leads span exit at to → lead ≡ record { number = index + 1; to = to } → IsLead (LeadsBy table exits span key) at bound lead
+    sought_found to lead leads is = subst (IsLead (LeadsBy table exits span key) at bound) (sym is) (record {
       up = (let up = was.up in let low = least.0 in omega arith);
       leads = record {
         exit = exit;

@@ -45,7 +45,7 @@ impl Exit {
     }
 }
 
-// The elbow of a kind that is moved on, if its shift is from -span to span then.
+/// The elbow of a kind that is moved on, if its shift is from -span to span then.
 fn moved(kind: usize, shift: i64, advance: i64, span: i64) -> Option<Elbow>
     requires { pos 0 ≤ℤ span }
     ensures some { IfSome result (λ to. (to ≡ elbow kind (shift +ℤ advance)) × IsInSpan span to) }

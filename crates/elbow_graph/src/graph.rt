@@ -78,7 +78,7 @@ impl ElbowGraph {
     }
 }
 
-// What each of the turns does.
+/// What each of the turns does.
 fn exits(alloc: Global, turns: &[CheckedTurn]) -> Result<Vec<Exit>, NoMemory>
     ensures { IfOk result (λ exits. exits.items ≡ exits_of (raws turns.now)) }
 {

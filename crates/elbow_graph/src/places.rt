@@ -18,9 +18,9 @@ use std::snapshot::Snapshot;
 pub(crate) struct Places {
     table: Snapshot<Table>,
     exits: Snapshot<Vec<Exit>>,
-    // The first place with each key.
+    /// The first place with each key.
     firsts: IndexMap<TurnKey, usize>,
-    // For each place the next with its key.
+    /// For each place the next with its key.
     nexts: Vec<Option<usize>>,
 }
 

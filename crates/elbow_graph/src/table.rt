@@ -48,14 +48,14 @@ impl Table {
     }
 }
 
-// A key by a kind alone.
+/// A key by a kind alone.
 fn kind_key(kind: usize) -> TurnKey
     ensures { result ≡ record { kind = kind; lane = None } }
 {
     TurnKey { kind, lane: None }
 }
 
-// The key of a move.
+/// The key of a move.
 fn move_key(exit: Exit) -> Option<TurnKey>
     ensures { result ≡ key_in Table.Moves exit }
 {
@@ -66,7 +66,7 @@ fn move_key(exit: Exit) -> Option<TurnKey>
     }
 }
 
-// The key of a move or a throw.
+/// The key of a move or a throw.
 fn leading_key(exit: Exit) -> Option<TurnKey>
     ensures { result ≡ key_in Table.Leading exit }
 {
@@ -77,7 +77,7 @@ fn leading_key(exit: Exit) -> Option<TurnKey>
     }
 }
 
-// The key of a closing turn.
+/// The key of a closing turn.
 fn closing_key(exit: Exit) -> Option<TurnKey>
     ensures { result ≡ key_in Table.Closing exit }
 {
@@ -88,7 +88,7 @@ fn closing_key(exit: Exit) -> Option<TurnKey>
     }
 }
 
-// The key of a throw.
+/// The key of a throw.
 fn throw_key(exit: Exit) -> Option<TurnKey>
     ensures { result ≡ key_in Table.Throws exit }
 {

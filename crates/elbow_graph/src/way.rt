@@ -2,7 +2,7 @@
 
 ghost use Rattle.std.specs.Prelude.{◌≡◌, ℤ, pos, ◌≤ℤ◌, ◌+ℤ◌, ◌*ℤ◌, IfSome};
 ghost use Rattle.breadth_search.specs.Search.{bound_past};
-ghost use Rattle.breadth_search.specs.Steps.{IsFirstStep, IsFirstEnd};
+ghost use Rattle.breadth_search.specs.Leads.{IsFirstLead, IsFirstEnd};
 ghost use Rattle.elbow_graph.specs.declared.goal.Goal.TheVariants as goals;
 ghost use Rattle.elbow_graph.specs.Goals.{Passes, Ends};
 ghost use Rattle.elbow_graph.specs.Tables.{passing_in, turn_key, place_past, IsKeyed, IsLeastFrom, IsTurnOf, LeadsBy};
@@ -12,7 +12,7 @@ use crate::goal::Goal;
 use crate::graph::ElbowGraph;
 use crate::places::Places;
 use crate::table::{Table, TurnKey};
-use breadth_search::{Ending, Graph, Step};
+use breadth_search::{Ending, Graph, Lead};
 
 /// How lists of turns are walked: over which graph, for which goal, and within which span.
 #[derive(Drop)]
@@ -26,12 +26,12 @@ pub(crate) struct Way<'a> {
 impl<'a> Graph<Elbow> for Way<'a> {
     ghost leads = { λ w. Passes w.graph.now w.span w.goal };
 
-    fn first(&self, at: Elbow) -> Option<Step<Elbow>> {
+    fn first(&self, at: Elbow) -> Option<Lead<Elbow>> {
         let table = passing(self.goal);
         first_leading(self.graph, table, at_kind(at), None, at, self.span)
     }
 
-    fn after(&self, at: Elbow, number: usize) -> Option<Step<Elbow>> {
+    fn after(&self, at: Elbow, number: usize) -> Option<Lead<Elbow>> {
         let table = passing(self.goal);
         first_leading(self.graph, table, at_kind(at), Some(number), at, self.span)
     }
@@ -49,7 +49,7 @@ impl<'a> Ending<Elbow> for Way<'a> {
     }
 }
 
-// The key of the turns at an elbow.
+/// The key of the turns at an elbow.
 fn at_kind(at: Elbow) -> TurnKey
     ensures { result ≡ turn_key at.kind None }
 {
@@ -59,7 +59,7 @@ fn at_kind(at: Elbow) -> TurnKey
     }
 }
 
-// The table of the turns that may stand before the last of a list.
+/// The table of the turns that may stand before the last of a list.
 fn passing(goal: Goal) -> Table
     ensures { result ≡ passing_in goal }
 {
@@ -70,7 +70,7 @@ fn passing(goal: Goal) -> Table
     }
 }
 
-// The number of the first turn that closes an elbow.
+/// The number of the first turn that closes an elbow.
 fn closing(graph: &ElbowGraph, at: Elbow) -> Option<usize>
     ensures { (span : ℤ) → IsFirstEnd (Ends graph.now span goals.Closed) at result }
 {
@@ -80,7 +80,7 @@ fn closing(graph: &ElbowGraph, at: Elbow) -> Option<usize>
     }
 }
 
-// The number of the first turn that throws on a lane at an elbow, and leaves the elbow within the span.
+/// The number of the first turn that throws on a lane at an elbow, and leaves the elbow within the span.
 fn throwing(graph: &ElbowGraph, at: Elbow, wanted: i64, span: i64) -> Option<usize>
     requires { pos 0 ≤ℤ span }
     ensures { IsFirstEnd (Ends graph.now span (goals.Lane wanted)) at result }
@@ -90,19 +90,19 @@ fn throwing(graph: &ElbowGraph, at: Elbow, wanted: i64, span: i64) -> Option<usi
         lane: Some(lane_at(wanted, at.shift)),
     };
     match first_leading(graph, Table::Throws, key, None, at, span) {
-        Some(step) => Some(step.number),
+        Some(lead) => Some(lead.number),
         None => None,
     }
 }
 
-// The lane on which a turn at a shift must throw for the wanted one.
+/// The lane on which a turn at a shift must throw for the wanted one.
 fn lane_at(wanted: i64, shift: i64) -> i128
     ensures { result +ℤ pos 2 *ℤ shift ≡ wanted }
 {
     i128::from(wanted) - 2 * i128::from(shift)
 }
 
-// The first turn with a key in a table, past one of them where one is named, that leads from an elbow to another within the span.
+/// The first turn with a key in a table, past one of them where one is named, that leads from an elbow to another within the span.
 fn first_leading(
     graph: &ElbowGraph,
     table: Table,
@@ -110,16 +110,16 @@ fn first_leading(
     past: Option<usize>,
     at: Elbow,
     span: i64,
-) -> Option<Step<Elbow>>
+) -> Option<Lead<Elbow>>
     requires span { pos 0 ≤ℤ span }
     requires past { IfSome past (IsTurnOf table graph.now key) }
-    ensures { IsFirstStep (LeadsBy table graph.now span key) at (bound_past past) result }
+    ensures { IsFirstLead (LeadsBy table graph.now span key) at (bound_past past) result }
 {
     let places = graph.places(table);
     let mut place = first_past(places, key, past);
     'turns: while let Some(index) = place {
         if let Some(to) = graph.exit(index).leads(at, span) {
-            return Some(Step {
+            return Some(Lead {
                 number: index + 1,
                 to,
             });
@@ -129,7 +129,7 @@ fn first_leading(
     None
 }
 
-// The place of the first turn with a key in a table, past one of them where one is named.
+/// The place of the first turn with a key in a table, past one of them where one is named.
 fn first_past(places: &Places, key: TurnKey, past: Option<usize>) -> Option<usize>
     requires { IfSome past (IsTurnOf places.now.table places.now.exits key) }
     ensures { IsLeastFrom (IsKeyed places.now.table places.now.exits key) (place_past past) result }

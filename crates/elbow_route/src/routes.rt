@@ -81,7 +81,7 @@ pub fn least_to_close(
     least_list(alloc, graph, Goal::Closed, from, span)
 }
 
-// The least list of turns that serves a goal, by their numbers from 1 on, each shift from -span to span; None exactly where none does.
+/// The least list of turns that serves a goal, by their numbers from 1 on, each shift from -span to span; None exactly where none does.
 fn least_list(
     alloc: Global,
     graph: &ElbowGraph,

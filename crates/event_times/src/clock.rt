@@ -41,7 +41,7 @@ pub fn advance_of(end: TurnEnd) -> i64
     }
 }
 
-// The glider that a turn throws at this shift, if it throws one, in the plane's coordinates.
+/// The glider that a turn throws at this shift, if it throws one, in the plane's coordinates.
 fn emission_of(end: TurnEnd, at: i64) -> Option<Emission>
     requires end { (kinds : ℕ) × IsProperEnd kinds end }
     requires at { IsNearShift at }
@@ -56,7 +56,7 @@ fn emission_of(end: TurnEnd, at: i64) -> Option<Emission>
     }
 }
 
-// How many of the first hits are over by a time, where so many of them are known to be: as far as there is one after the other.
+/// How many of the first hits are over by a time, where so many of them are known to be: as far as there is one after the other.
 fn over_by(hits: &[HitTime], known: usize, time: u64) -> usize
     requires known { known ≤ length hits.now }
     requires over { AreOver time (take known hits.now) }
@@ -71,7 +71,7 @@ fn over_by(hits: &[HitTime], known: usize, time: u64) -> usize
     hits.len()
 }
 
-// The least start of a turn after those so far.
+/// The least start of a turn after those so far.
 fn start_after(clock: &Clock, reach: i64, n: u32, emits: Option<Emission>) -> u64
     requires within { clock.now.over ≤ length clock.now.hits.items }
     requires near { AreNear reach clock.now.before clock.now.sent emits (drop clock.now.over clock.now.hits.items) }
@@ -81,7 +81,7 @@ fn start_after(clock: &Clock, reach: i64, n: u32, emits: Option<Emission>) -> u6
     least_start(reach, clock.before, clock.sent, n, emits, live)
 }
 
-// The last glider thrown, where one was thrown last before, and a turn throws this at its end.
+/// The last glider thrown, where one was thrown last before, and a turn throws this at its end.
 fn sent_after(emits: Option<Emission>, end: u64, before: Option<Sent>) -> Option<Sent>
     ensures { result ≡ sent_after emits end before }
 {
@@ -114,7 +114,7 @@ pub fn add_turn(clock: &mut Clock, reach: i64, turn: &RawTurn, shift: i64) -> Re
     Ok(())
 }
 
-// When the hit of a thrown glider is over.
+/// When the hit of a thrown glider is over.
 fn end_of_hit(sent: Sent, frame: HitFrame, generations: u32) -> u64
     requires sent { IsEarlySent latest_end (Some sent) }
     requires frame { IsEarlyFrame frame }

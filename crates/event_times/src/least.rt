@@ -48,7 +48,7 @@ pub struct HitTime {
     pub bounds: Bounds,
 }
 
-// The first generation that isn't before this time, and not before so long after it.
+/// The first generation that isn't before this time, and not before so long after it.
 fn later_by(time: u64, wait: i64) -> u64
     requires time { time ≤ 2 ^ 56 }
     requires wait { IsFrom (neg_ℤ (pos (2 ^ 59))) (pos (2 ^ 59)) wait }
@@ -58,7 +58,7 @@ fn later_by(time: u64, wait: i64) -> u64
     time + wait.max(0) as u64
 }
 
-// The first generation in which a turn may start behind the turn before.
+/// The first generation in which a turn may start behind the turn before.
 fn behind_turn(before: Option<TurnTime>) -> u64
     requires { IsNearTurn before }
     ensures from { (start : ℕ) → IsBehindTime before start ↔ result ≤ start }
@@ -70,7 +70,7 @@ fn behind_turn(before: Option<TurnTime>) -> u64
     }
 }
 
-// The first generation in which a turn may start behind the last glider thrown.
+/// The first generation in which a turn may start behind the last glider thrown.
 fn behind_glider(reach: i64, sent: Option<Sent>) -> u64
     requires reach { IsNear reach }
     requires sent { IsNearSent sent }
@@ -83,7 +83,7 @@ fn behind_glider(reach: i64, sent: Option<Sent>) -> u64
     }
 }
 
-// The quarter of a glider's index from which it comes, on this lane, to what lies in these bounds.
+/// The quarter of a glider's index from which it comes, on this lane, to what lies in these bounds.
 fn first_quarter(lane: i64, bounds: Bounds) -> i64
     requires lane { IsNear lane }
     requires bounds { IsBoxInRange (2 ^ 56) bounds }
@@ -93,7 +93,7 @@ fn first_quarter(lane: i64, bounds: Bounds) -> i64
     (bounds.left - 6 - lane).max(-bounds.bottom - 6)
 }
 
-// The last index of a glider on this lane before it comes to what lies in these bounds.
+/// The last index of a glider on this lane before it comes to what lies in these bounds.
 fn last_before(lane: i64, bounds: Bounds) -> i64
     requires lane { IsNear lane }
     requires bounds { IsBoxInRange (2 ^ 56) bounds }
@@ -103,7 +103,7 @@ fn last_before(lane: i64, bounds: Bounds) -> i64
     4 * first_quarter(lane, bounds) + 3
 }
 
-// The first generation in which this glider may be thrown without coming to the hit.
+/// The first generation in which this glider may be thrown without coming to the hit.
 fn sparing(glider: Emission, hit: HitTime) -> u64
     requires glider { IsNearEmission glider }
     requires hit { IsNearHit hit }
@@ -114,7 +114,7 @@ fn sparing(glider: Emission, hit: HitTime) -> u64
     (hit.end as i64 + early.min(0)).max(0) as u64
 }
 
-// The first generation from this one on in which this glider may be thrown without coming to any of the hits.
+/// The first generation from this one on in which this glider may be thrown without coming to any of the hits.
 fn sparing_all(from: u64, glider: Emission, hits: &[HitTime]) -> u64
     requires from { from ≤ 2 ^ 61 }
     requires glider { IsNearEmission glider }

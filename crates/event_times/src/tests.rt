@@ -4,7 +4,7 @@ ghost use Rattle.event_times.specs.Least.{AreNearEmissions, IsNearHit};
 use crate::least::{Emission, HitTime, Sent, TurnTime, least_start};
 use life_cells::Bounds;
 
-// The least start of a turn that follows an elbow moved on by 64 cells, with a hit still under way 500 generations later.
+/// The least start of a turn that follows an elbow moved on by 64 cells, with a hit still under way 500 generations later.
 fn start(emits: Option<Emission>, hits: &[HitTime]) -> u64
     requires emits { AreNearEmissions emits }
     requires hits { AllByRecursion IsNearHit hits.now }

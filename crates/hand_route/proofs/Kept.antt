@@ -23,8 +23,8 @@ use Rattle.breadth_search.specs.Labelled.{Labelled}
 use Rattle.breadth_search.specs.Labels.{label, with_list, lists_of, AreLabelled, IsAdded}
 use Rattle.breadth_search.specs.Search.{first_of, IsSearched}
 use Rattle.breadth_search.specs.Walks.{IsLeastTo}
-use Rattle.breadth_search.proofs.ByBreadth.{breadth_begins, breadth_stays, breadth_grows, breadth_turns}
-use Rattle.breadth_search.proofs.Finding.{are_first, whole}
+use Rattle.breadth_search.specs.SearchLaws.{breadth_begins, breadth_stays, breadth_grows, breadth_turns}
+use Rattle.breadth_search.specs.SearchedLaws.{are_first, whole}
 use Rattle.hand_route.specs.declared.salvos.Carrier.{Carrier}
 use Rattle.hand_route.specs.Carriers.{Means}
 use Rattle.hand_route.specs.Rooms.{Places}

@@ -22,7 +22,7 @@ use Rattle.elbow_graph.specs.Numbered.{IsNumbered}
 use Rattle.elbow_graph.specs.NumberedLaws.{numbered_once}
 use Rattle.recipe_hit.specs.Checked.{Struck}
 use Rattle.hand_route.specs.declared.salvos.Carrier.{Carrier}
-use Rattle.breadth_search.specs.Steps.{IsFirstEnd}
+use Rattle.breadth_search.specs.Leads.{IsFirstEnd}
 use Rattle.hand_route.specs.Carriers.{Means, HasSalvo, number_of, IsNear, IsCarrier, AreCarriers, TakesAt, AreTakers}
 use Rattle.hand_route.specs.Clearings.{IsSalvoClear}
 use Rattle.hand_route.specs.Moves.{BuildsNothing, moved_by, leaves_hand}

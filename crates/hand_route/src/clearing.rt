@@ -34,7 +34,7 @@ pub fn is_salvo_clear(
     are_all_aside(built, hits, place) && are_all_off(built, hits, place)
 }
 
-// Whether the bounds of each hit are beyond the reach.
+/// Whether the bounds of each hit are beyond the reach.
 fn are_all_beyond(settings: &Settings, hits: &[Hit], place: Cell) -> bool
     requires settings { AreProper settings.now }
     requires hits { AreSmallFrames hits.now }
@@ -49,7 +49,7 @@ fn are_all_beyond(settings: &Settings, hits: &[Hit], place: Cell) -> bool
     true
 }
 
-// Whether what is built is aside of the flight to each hit.
+/// Whether what is built is aside of the flight to each hit.
 fn are_all_aside(built: &BuiltSet, hits: &[Hit], place: Cell) -> bool
     requires hits { AreSmallFrames hits.now }
     requires place { IsCellInRange farthest place }
@@ -63,7 +63,7 @@ fn are_all_aside(built: &BuiltSet, hits: &[Hit], place: Cell) -> bool
     true
 }
 
-// Whether what is built is off the bounds of each hit.
+/// Whether what is built is off the bounds of each hit.
 fn are_all_off(built: &BuiltSet, hits: &[Hit], place: Cell) -> bool
     requires hits { AreSmallFrames hits.now }
     requires place { IsCellInRange farthest place }

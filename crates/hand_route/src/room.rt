@@ -22,7 +22,7 @@ pub fn is_room(bounds: Bounds) -> bool
     columns & rows
 }
 
-// Whether two ends are those of a side of a room.
+/// Whether two ends are those of a side of a room.
 fn is_side(low: i64, high: i64) -> bool
     ensures { IsTrue result ↔ IsSide low high }
 {
@@ -32,7 +32,7 @@ fn is_side(low: i64, high: i64) -> bool
     high - low < MOST_PLACES
 }
 
-// How far a number is past another.
+/// How far a number is past another.
 fn past(low: i64, z: i64) -> usize
     requires order { low ≤ℤ z }
     requires near { (z -ℤ low) <ℤ pos (2 ^ 62) }
@@ -41,7 +41,7 @@ fn past(low: i64, z: i64) -> usize
     (z - low) as usize
 }
 
-// How many places a room has from left to right.
+/// How many places a room has from left to right.
 fn width(room: Bounds) -> usize
     requires { IsRoom room }
     ensures { result ≡ width_of room }

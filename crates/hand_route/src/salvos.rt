@@ -98,7 +98,7 @@ impl<'a> HandSalvos<'a> {
     }
 }
 
-// The salvo with a number, where it builds nothing and carries the hand.
+/// The salvo with a number, where it builds nothing and carries the hand.
 fn carrier_of(number: usize, salvo: &CheckedSalvo) -> Option<Carrier>
     ensures some { IfSome result (λ c. (c.number ≡ number) × (CarriesBy salvo.now c × IsNear c)) }
     ensures none { IfNone result ((c : Moving) → CarriesBy salvo.now c → ⊥) }
@@ -110,14 +110,14 @@ fn carrier_of(number: usize, salvo: &CheckedSalvo) -> Option<Carrier>
     Some(Carrier { number, by })
 }
 
-// Whether a salvo builds nothing and takes the hand away.
+/// Whether a salvo builds nothing and takes the hand away.
 fn is_taker(salvo: &CheckedSalvo) -> bool
     ensures { IsTrue result ↔ TakesHand salvo.now }
 {
     salvo.raw().product.is_empty() && salvo.leaves().is_none()
 }
 
-// The salvos that carry the hand.
+/// The salvos that carry the hand.
 fn carriers_of(alloc: Global, salvos: &[CheckedSalvo]) -> Result<Vec<Carrier>, NoMemory>
     ensures { IfOk result (λ carriers. AreCarriers salvos.now carriers.items) }
 {
@@ -130,7 +130,7 @@ fn carriers_of(alloc: Global, salvos: &[CheckedSalvo]) -> Result<Vec<Carrier>, N
     Ok(carriers)
 }
 
-// The numbers of the salvos that take the hand away.
+/// The numbers of the salvos that take the hand away.
 fn takers_of(alloc: Global, salvos: &[CheckedSalvo]) -> Result<Vec<usize>, NoMemory>
     ensures { IfOk result (λ takers. AreTakers salvos.now takers.items) }
 {

@@ -8,7 +8,7 @@ ghost use Rattle.life_cells.specs.Cells.{cell};
 ghost use Rattle.life_cells.specs.Listed.{same_cell};
 ghost use Rattle.breadth_search.specs.First.{IsGrown, IsLabelling};
 ghost use Rattle.breadth_search.specs.Search.{first_of};
-ghost use Rattle.breadth_search.specs.Steps.{IsFirstEnd};
+ghost use Rattle.breadth_search.specs.Leads.{IsFirstEnd};
 ghost use Rattle.breadth_search.specs.Walks.{IsLeastTo, IsReached};
 ghost use Rattle.hand_route.specs.Lists.{IsHandList, IsFarewell, IsLeastHandList, IsLeastFarewell};
 ghost use Rattle.hand_route.specs.Rooms.{IsRoom};
@@ -123,7 +123,7 @@ impl<'a> HandWays<'a> {
         Ok(None)
     }
 
-    // The least list to the place with a number.
+    /// The least list to the place with a number.
     fn list_of(&self, alloc: Global, number: usize) -> Result<Vec<usize>, NoMemory>
         requires { number < length self.now.states }
         ensures list { IfOk result (λ list. list.items ≡ get_or self.now.lists number []) }
@@ -132,7 +132,7 @@ impl<'a> HandWays<'a> {
         self.found.list_to(alloc, number)
     }
 
-    // The place with a number: it is found now, if it is the next. None where fewer are come to.
+    /// The place with a number: it is found now, if it is the next. None where fewer are come to.
     fn come_to(&mut self, number: usize) -> Result<Option<Cell>, NoMemory>
         requires { number ≤ length self.old.states }
         ensures among { self.new.graph ≡ self.old.graph }
@@ -151,7 +151,7 @@ impl<'a> HandWays<'a> {
         self.grow()
     }
 
-    // The number of a place; places are found until it is one of them. None exactly where the hand is never carried there.
+    /// The number of a place; places are found until it is one of them. None exactly where the hand is never carried there.
     fn find(&mut self, to: Cell) -> Result<Option<usize>, NoMemory>
         ensures among { self.new.graph ≡ self.old.graph }
         ensures from { self.new.from ≡ self.old.from }
@@ -173,8 +173,8 @@ impl<'a> HandWays<'a> {
         }
     }
 
-    // Finds the next place in the order of the least lists: none where all to which the hand is carried are found. Without memory the same
-    // places are found as before.
+    /// Finds the next place in the order of the least lists: none where all to which the hand is carried are found. Without memory the same
+    /// places are found as before.
     fn grow(&mut self) -> Result<Option<Cell>, NoMemory>
         ensures among { self.new.graph ≡ self.old.graph }
         ensures from { self.new.from ≡ self.old.from }
@@ -205,7 +205,7 @@ impl<'a> HandWays<'a> {
     }
 }
 
-// Tries the salvos that are left at a place, up to one that carries the hand to a place that was not found.
+/// Tries the salvos that are left at a place, up to one that carries the hand to a place that was not found.
 fn grow_at(
     salvos: &HandSalvos,
     built: &BuiltSet,
@@ -239,7 +239,7 @@ fn grow_at(
     Ok(Some(next))
 }
 
-// Where a hand is that was carried so far.
+/// Where a hand is that was carried so far.
 fn carried(from: Cell, by: Cell) -> Cell
     requires from { IsCellInRange (2 ^ 51) from }
     requires by { IsCellInRange (2 ^ 51) by }
@@ -251,7 +251,7 @@ fn carried(from: Cell, by: Cell) -> Cell
     }
 }
 
-// Whether a salvo carries the hand from a place to one in the room that was not found.
+/// Whether a salvo carries the hand from a place to one in the room that was not found.
 fn carries_on(
     salvos: &HandSalvos,
     built: &BuiltSet,
@@ -270,7 +270,7 @@ fn carries_on(
     is_salvo_clear(salvos.settings(), built, salvos.salvo(carrier.number), at)
 }
 
-// The first salvo past a number that carries the hand from a place to one in the room that was not found.
+/// The first salvo past a number that carries the hand from a place to one in the room that was not found.
 fn next_carrier(
     salvos: &HandSalvos,
     built: &BuiltSet,
@@ -290,7 +290,7 @@ fn next_carrier(
     None
 }
 
-// The first salvo that takes the hand away from a place.
+/// The first salvo that takes the hand away from a place.
 fn first_taker(salvos: &HandSalvos, built: &BuiltSet, at: Cell) -> Option<usize>
     requires { IsCellInRange (2 ^ 51) at }
     ensures { (room : Bounds) → IsFirstEnd (takes (ground salvos.now built.now room)) at result }

@@ -15,7 +15,7 @@ use life_cells::NoMemory;
 use recipe_book::CheckedBook;
 use std::alloc::Global;
 
-// The pattern of a plan; want of memory is a stop of planning.
+/// The pattern of a plan; want of memory is a stop of planning.
 fn build_or_stop(
     alloc: Global,
     book: &CheckedBook,

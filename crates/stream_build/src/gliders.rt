@@ -16,7 +16,7 @@ use book_parts::{RawTurn, Settings};
 use life_cells::{Cell, NoMemory};
 use life_gliders::{Track, glider_cells};
 
-// The cells at a time of the glider of one delay.
+/// The cells at a time of the glider of one delay.
 fn glider_at(settings: &Settings, delay: i64, time: i64) -> [Cell; 5]
     requires settings { AreProper settings.now }
     requires delay { IsDelay delay }
@@ -26,7 +26,7 @@ fn glider_at(settings: &Settings, delay: i64, time: i64) -> [Cell; 5]
     glider_cells(Track::Stream, time - settings.approach - delay)
 }
 
-// Appends the gliders of these delays, the first of them due at this time less the approach.
+/// Appends the gliders of these delays, the first of them due at this time less the approach.
 fn push_gliders(
     cells: &mut Vec<Cell>,
     settings: &Settings,
@@ -44,7 +44,7 @@ fn push_gliders(
     Ok(())
 }
 
-// The generation of the elbow's own frame in which the pattern stands, where a turn starts so late at this shift.
+/// The generation of the elbow's own frame in which the pattern stands, where a turn starts so late at this shift.
 fn time_of(shift: i64, start: u64) -> i64
     requires shift { IsNearShift shift }
     requires start { start ≤ latest_end }

@@ -21,7 +21,7 @@ use recipe_book::CheckedBook;
 use std::alloc::Global;
 use stream_time::turn_with;
 
-// The cells of the gliders of a plan's turns, which start in these generations.
+/// The cells of the gliders of a plan's turns, which start in these generations.
 fn stream_cells(
     alloc: Global,
     book: &CheckedBook,
@@ -50,7 +50,7 @@ fn stream_cells(
     Ok(cells)
 }
 
-// The elbow that the stream begins at.
+/// The elbow that the stream begins at.
 fn start_elbow(book: &CheckedBook) -> &CellSet
     ensures { alive result.now ≡ kind_plane book.now.kinds book.now.start }
 {
@@ -60,14 +60,14 @@ fn start_elbow(book: &CheckedBook) -> &CellSet
     &kind.cells
 }
 
-// Cells that are gliders, as a set.
+/// Cells that are gliders, as a set.
 fn gliders_of(alloc: Global, cells: &[Cell]) -> Result<CellSet, NoMemory>
     ensures { IfOk result (λ set. alive set ≡ listed cells.now) }
 {
     CellSet::from_cells(alloc, cells)
 }
 
-// The hand at this place.
+/// The hand at this place.
 fn hand_at(book: &CheckedBook, place: Cell) -> Result<CellSet, NoMemory>
     requires { IsNearPlace place }
     ensures { IfOk result (λ set. alive set ≡ shift place.x place.y (alive book.now.hand)) }
@@ -76,7 +76,7 @@ fn hand_at(book: &CheckedBook, place: Cell) -> Result<CellSet, NoMemory>
     book.hand().shift(place.x, place.y)
 }
 
-// The gliders and the first hand, if there is one.
+/// The gliders and the first hand, if there is one.
 fn with_hand(book: &CheckedBook, place: Option<Cell>, gliders: CellSet) -> Result<CellSet, NoMemory>
     requires { IsNearHand place }
     ensures { IfOk result (λ set. alive set ≡ union (hand_plane (alive book.now.hand) (first_hand place)) (alive gliders)) }

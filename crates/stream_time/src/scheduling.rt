@@ -21,7 +21,7 @@ use life_cells::NoMemory;
 use recipe_book::CheckedBook;
 use std::alloc::Global;
 
-// Adds one more event of a plan: a turn, started as early as it may, or the hit of the glider thrown last.
+/// Adds one more event of a plan: a turn, started as early as it may, or the hit of the glider thrown last.
 fn add_event(clock: &mut Clock, book: &CheckedBook, event: Event) -> Result<(), NoMemory>
     requires own { IsOfBook book.now event }
     requires near { IsNearEvent event }

@@ -1,7 +1,7 @@
 use Rattle.std.proofs.Common.{◌≡◌, ◌+◌, ◌<◌, ℤ, sym, subst, refl, length, arith, w64, to_z, of_z}
 use Rattle.std.proofs.lemmas.Int.{ints}
 use Rattle.breadth_search.specs.Search.{bound_past}
-use Rattle.breadth_search.specs.Steps.{IsStep}
+use Rattle.breadth_search.specs.Leads.{IsLead}
 use Rattle.elbow_graph.specs.Tables.{Listed, IsKeyed, LeadsBy}
 use Rattle.elbow_graph.proofs.Leading.{IsSought, sought_begins, sought_within, sought_keyed, sought_fails, sought_found, sought_over, left_falls}
 use Rattle.elbow_graph.proofs.Tabling.{least_of, next_of}
@@ -19,7 +19,7 @@ overflow_add-result c = let lt = sought_within _ _ _ _ _ _ _ _ c.in-Some.is c.tu
 pub returns-in-Some-leads : goal.returns-in-Some-leads
 returns-in-Some-leads c =
     let span_is : to_z w64 (of_z w64 c.args.span) ≡ c.args.span = omega (arith, ints) in
-    subst (λ (z : ℤ). IsStep (LeadsBy c.args.table c.args.graph.now z c.args.key) c.args.at (bound_past c.args.past) (record { number = c.in-Some.index + 1; to = c.in-Some-leads.to })) span_is
+    subst (λ (z : ℤ). IsLead (LeadsBy c.args.table c.args.graph.now z c.args.key) c.args.at (bound_past c.args.past) (record { number = c.in-Some.index + 1; to = c.in-Some-leads.to })) span_is
     (sought_found _ _ _ _ _ _ _ _ c.in-Some.is c.turns.invariant _ c.exit.ensures _ _ c.in-Some-leads.ensures.some refl)
 
 pub after-place-requires : goal.after-place-requires

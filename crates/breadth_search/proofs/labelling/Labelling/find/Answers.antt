@@ -1,6 +1,6 @@
 use Rattle.std.proofs.Common.{sym, ◌∙◌, ap, Some}
-use Rattle.breadth_search.proofs.Growing.{when_none, when_some}
-use Rattle.breadth_search.proofs.Seeking.{not_reached, lacks_more, at_last, grown_more}
+use Rattle.breadth_search.specs.ItemLaws.{when_none, when_some}
+use Rattle.breadth_search.specs.SeekingLaws.{not_reached, lacks_more, at_last, grown_more}
 use Rattle.breadth_search.proofs.labelling.Labelling.find.Goals as goal
 
 pub returns-in_default-2-clause-none : goal.returns-in_default-2-clause-none

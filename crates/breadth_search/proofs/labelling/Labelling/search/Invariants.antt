@@ -1,6 +1,6 @@
 use Rattle.std.proofs.Common.{◌-◌, ◌^◌}
 use Rattle.breadth_search.specs.First.{IsGrown}
-use Rattle.breadth_search.proofs.Seeking.{IsSeeking}
+use Rattle.breadth_search.specs.Seeking.{IsSeeking}
 use Rattle.breadth_search.proofs.labelling.Labelling.search.Given as goal
 
 abbrev pub invariant-states : goal.invariant-states

@@ -1,6 +1,6 @@
 use Rattle.std.proofs.Common.{◌≡◌, ℤ, sym, subst, arith, w64, to_z, of_z}
 use Rattle.std.proofs.lemmas.Int.{ints}
-use Rattle.breadth_search.specs.Steps.{IsFirstEnd}
+use Rattle.breadth_search.specs.Leads.{IsFirstEnd}
 use Rattle.elbow_graph.specs.declared.goal.Goal.TheVariants as goals
 use Rattle.elbow_graph.specs.Goals.{Ends}
 use Rattle.elbow_graph.proofs.way.WayEndingElbow.ending.Goals as goal

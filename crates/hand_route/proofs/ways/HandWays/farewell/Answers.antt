@@ -3,8 +3,8 @@ use Rattle.std.proofs.lemmas.Option.{slice_get_within}
 use Rattle.life_cells.specs.declared.cell.Cell.{Cell}
 use Rattle.life_cells.specs.Listed.{same_cell}
 use Rattle.breadth_search.specs.Labelled.{Labelled}
-use Rattle.breadth_search.specs.Steps.{IsFirstEnd}
-use Rattle.breadth_search.proofs.Seeking.{seek_on, seek_ends, seek_fails, grown_on}
+use Rattle.breadth_search.specs.Leads.{IsFirstEnd}
+use Rattle.breadth_search.specs.SeekingLaws.{seek_on, seek_ends, seek_fails, grown_on}
 use Rattle.hand_route.specs.Ways.{Ground, carries, takes}
 use Rattle.hand_route.proofs.Kept.{when_none, when_some}
 use Rattle.hand_route.proofs.ways.HandWays.farewell.Goals as goal

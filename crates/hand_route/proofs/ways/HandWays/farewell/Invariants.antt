@@ -1,7 +1,7 @@
 use Rattle.std.proofs.Common.{◌-◌, ◌^◌}
 use Rattle.life_cells.specs.Listed.{same_cell}
 use Rattle.breadth_search.specs.First.{IsGrown}
-use Rattle.breadth_search.proofs.Seeking.{IsSeeking}
+use Rattle.breadth_search.specs.Seeking.{IsSeeking}
 use Rattle.hand_route.specs.Ways.{carries, takes}
 use Rattle.hand_route.proofs.ways.HandWays.farewell.Given as goal
 

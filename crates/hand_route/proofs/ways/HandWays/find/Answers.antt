@@ -6,7 +6,7 @@ use Rattle.life_cells.specs.declared.cell.Cell.{Cell}
 use Rattle.life_cells.specs.Listed.{same_cell}
 use Rattle.breadth_search.specs.Labelled.{Labelled}
 use Rattle.breadth_search.specs.KeyLaws.{same_cell as by_parts}
-use Rattle.breadth_search.proofs.Seeking.{not_reached, lacks_more, at_last, grown_more}
+use Rattle.breadth_search.specs.SeekingLaws.{not_reached, lacks_more, at_last, grown_more}
 use Rattle.hand_route.specs.Ways.{Ground, carries}
 use Rattle.hand_route.proofs.Kept.{when_none, when_some, equal_cells, equal_cells-itself}
 use Rattle.hand_route.proofs.ways.HandWays.find.Goals as goal

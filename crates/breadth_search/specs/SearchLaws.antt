@@ -1,13 +1,14 @@
--- Steps of a search by breadth.
+-- What is known of a search by breadth goes on as numbers are tried, place by place.
 use Rattle.std.proofs.Common.{◌≡◌, ◌⊎◌, ℕ, suc, ◌+◌, ◌<◌, ◌≤◌, List, [], ◌∷◌, ◌++◌, length, get_or, inl, inr, refl, sym, ap, subst, ◌∙◌, arith}
 use Rattle.std.specs.List.{Contains}
 use Rattle.std.proofs.lemmas.List.{get_or_append_left, get_or_push, length_push, get_or_default}
+use Rattle.std.proofs.lemmas.List.Sums.{fold_push}
 use Rattle.std.proofs.lemmas.Bool.{cases_lt}
 use Rattle.life_plane.specs.NumberLaws.{lt_or_same}
 use Rattle.breadth_search.specs.declared.found.Label.{Label}
 use Rattle.breadth_search.specs.ListOrder.{IsAtMost, IsBefore}
 use Rattle.breadth_search.specs.Walks.{LeadOn}
-use Rattle.breadth_search.specs.Labels.{label, label_at, list_by, with_list, AreLabelled, ArePrior}
+use Rattle.breadth_search.specs.Labels.{label, label_at, list_by, with_list, lists_of, AreLabelled, ArePrior}
 use Rattle.breadth_search.specs.Search.{IsTried, IsFoundBy, IsSearched}
 use Rattle.breadth_search.specs.OrderLaws.{at_most_itself, at_most_from_before, before_on, before_with, before_last, before_up}
 
@@ -59,6 +60,10 @@ prior_on labels place number was within k lt = at (lt_or_same k (length labels) 
     at : (k < length labels) ⊎ (k ≡ length labels) → (label_at (labels ++ label place number ∷ []) k).before ≤ k
     at (inl lt) = let P : Label → Type 0 = λ m. m.before ≤ k in subst P (sym (get_or_append_left labels (label place number ∷ []) (label 0 0) k lt)) (was k lt)
     at (inr is) = let P : Label → Type 0 = λ m. m.before ≤ k in subst P (sym (get_or_push labels (label place number) (label 0 0) k (sym is))) (omega arith)
+
+-- the lists by one more label
+pub lists_more : (labels : List Label) (mark : Label) → with_list (lists_of labels) mark ≡ lists_of (labels ++ mark ∷ [])
+lists_more labels mark = sym (fold_push with_list ([] ∷ []) labels mark)
 
 module _ {S : Type 0} (Next : ℕ → S → S → Type 0) (from : S) where
   -- it begins with the one, before any number

@@ -1,4 +1,4 @@
--- A search for the least list that ends, and for a state, over a labelling that grows.
+-- A search for the least list that ends, and for a state, goes on as a labelling grows, and answers.
 use Rattle.std.proofs.Common.{◌≡◌, ◌⊎◌, ℕ, ◌+◌, ◌^◌, ◌<◌, ◌≤◌, Bool, true, false, List, [], ◌∷◌, ◌++◌, length, get_or, Option, Some, None, inl, inr, sym, ap, subst, ◌∙◌, arith}
 use Rattle.std.specs.List.{slice_get, Contains}
 use Rattle.std.proofs.lemmas.List.{get_or_append_left, get_or_default, get_or_push, length_push, length-append, append_assoc}
@@ -7,18 +7,10 @@ use Rattle.life_plane.specs.NumberLaws.{lt_or_same}
 use Rattle.breadth_search.specs.First.{AreFirst, IsLabelling, IsGrown}
 use Rattle.breadth_search.specs.FirstLaws.{least_ending, no_ending}
 use Rattle.breadth_search.specs.Labelled.{Labelled}
+use Rattle.breadth_search.specs.Seeking.{IsSeeking}
 use Rattle.breadth_search.specs.States.{HasReached, HasReachedMore}
-use Rattle.breadth_search.specs.Steps.{IsFirstEnd}
+use Rattle.breadth_search.specs.Leads.{IsFirstEnd}
 use Rattle.breadth_search.specs.Walks.{LeadOn, EndsWith, IsLeastEnding, IsReached}
-
--- no list ends at the states before a place
-pub record IsSeeking {G S : Type 0} (Next : G → ℕ → S → S → Type 0) (Last : G → ℕ → S → Type 0) (eq : S → S → Bool) (graph : G) (from : S) (seen : Labelled G S) (place : ℕ) : Type 0 where
-  pub graph_is : seen.graph ≡ graph
-  pub from_is : seen.from ≡ from
-  pub within : place ≤ length seen.states
-  pub small : place ≤ 2 ^ 63
-  pub labelling : 0 < place → IsLabelling Next eq seen
-  pub none : (m k : ℕ) → m < place → Last graph k (get_or seen.states m from) → ⊥
 
 grown_longer : {S : Type 0} (states states_after : List S) → IsGrown states states_after → length states ≤ length states_after
 grown_longer states states_after grown =
