@@ -15,7 +15,7 @@ use Rattle.elbow_graph.specs.declared.table.TurnKey.{TurnKey}
 use Rattle.elbow_graph.specs.Elbows.{Leads}
 use Rattle.elbow_graph.specs.Numbered.{IsNumbered}
 use Rattle.elbow_graph.specs.Tables.{key_in, place_past, IsKeyed, IsLeastFrom, IsTurnOf, LeadsBy}
-use Rattle.elbow_graph.proofs.Numbers.{numbered_from_at, at_from_numbered}
+use Rattle.elbow_graph.specs.NumberedLaws.{numbered_from_at, at_from_numbered}
 
 -- ---- numbers and places
 

@@ -1,5 +1,4 @@
 -- Lemmas on tables of turns, and on the ways over a graph.
-pub mod Numbers
 pub mod Tabling
 pub mod Leading
-pub mod Ending
+pub mod LastTurns

@@ -9,6 +9,7 @@ use Rattle.std.specs.HashMap.{get, Updates, IsEmpty}
 use Rattle.std.specs.Map.{lookup}
 use Rattle.std.specs.Cmp.{signed_Decides}
 use Rattle.std.proofs.lemmas.List.{take_more}
+use Rattle.std.proofs.Math.Bool.{or-false}
 use Rattle.std.proofs.lemmas.Int.{ints, clamps}
 use Rattle.std.proofs.lemmas.Bool.{false_from_ne_true, or_cases, or_left, or_right, and_parts, and_from}
 use Rattle.life_plane.specs.Plane.{Plane, nothing, union, same_plane}
@@ -22,7 +23,7 @@ use Rattle.life_cells.specs.Listed.{same_cell, listed}
 use Rattle.life_cells.specs.OrderLaws.{same_cell_is, same_cell-itself}
 use Rattle.recipe_hit.specs.declared.frame.HitFrame.{HitFrame}
 use Rattle.lane_clear.specs.Clear.{IsAside}
-use Rattle.lane_clear.proofs.Looked.{not_both}
+use Rattle.lane_clear.specs.BaseLaws.{not_both}
 use Rattle.lane_clear.specs.Barriers.{ByLane, IsBeside, IsLeastBeside, IsBarrier, AreBarriers, lesser_of, is_beside, with_cell, with_cells}
 
 beside_is : (lane : ℤ) (c : Cell) → is_beside lane c ≡ true → IsBeside lane c.x c.y
@@ -106,11 +107,7 @@ module _ (s : Plane) (lane : ℤ) (c : Cell) where
 -- ---- cells of a list more
 
 all_more : (s : Plane) (lane : ℤ) (o : Option ℤ) (cs : List Cell) → IsBarrier s lane o → IsBarrier (union s (listed cs)) lane (with_cells lane o cs)
-all_more s lane o [] h = subst (λ (p : Plane). IsBarrier p lane o) (same_plane _ _ (λ x y. or_none (s x y))) h
-  where
-    or_none : (a : Bool) → a ≡ (a || false)
-    or_none true = refl
-    or_none false = refl
+all_more s lane o [] h = subst (λ (p : Plane). IsBarrier p lane o) (same_plane _ _ (λ x y. sym (or-false (s x y)))) h
 all_more s lane o (c ∷ cs) h =
     subst (λ (p : Plane). IsBarrier p lane (with_cells lane (with_cell lane o c) cs)) (same_plane _ _ (λ x y. or_all (s x y) (same_cell (cell x y) c) (listed cs x y)))
     (all_more (union s (listed (c ∷ []))) lane (with_cell lane o c) cs (one_more s lane c o h))

@@ -5,6 +5,7 @@ use Rattle.std.specs.declared.option.Option.TheVariants.{Some}
 use Rattle.std.proofs.lemmas.Option.{slice_get_within, slice_get-get_or}
 use Rattle.life_plane.specs.Plane.{Plane}
 use Rattle.life_plane.specs.Strips.{Each}
+use Rattle.life_plane.specs.ListLaws.{same_item}
 use Rattle.life_plane.specs.NumberLaws.{lt_or_same}
 use Rattle.life_cells.specs.declared.cell.Cell.{Cell}
 use Rattle.life_cells.specs.Cells.{cell, Cells, in_order, alive, IsRising}
@@ -20,13 +21,10 @@ use Rattle.std.proofs.lemmas.Bool.{false≢true}
 abbrev pub HoldsBefore : (ℤ → ℤ → Type 0) → List Cell → ℕ → Type 0
 HoldsBefore P cs i = (k : ℕ) (c : Cell) → k < i → slice_get cs k ≡ Some c → P c.x c.y
 
-same_item : {c d : Cell} → Some c ≡ Some d → c ≡ d
-same_item e = cc
-
 pub holds_of_more : (P : ℤ → ℤ → Type 0) (cs : List Cell) (i : ℕ) (d : Cell) → i < length cs → HoldsBefore P cs i → P (get_or cs i d).x (get_or cs i d).y → HoldsBefore P cs (i + 1)
 holds_of_more P cs i d lt before here k c early at = elim (lt_or_same k i early) [
   | inl less ↦ before k c less at
-  | inr same ↦ subst (λ (e : Cell). P e.x e.y) (same_item (sym (slice_get-get_or cs i d lt) ∙ subst (λ n. slice_get cs n ≡ Some c) same at)) here
+  | inr same ↦ subst (λ (e : Cell). P e.x e.y) (same_item (slice_get-get_or cs i d lt) (subst (λ n. slice_get cs n ≡ Some c) same at)) here
 ]
 
 -- where it holds of all places it holds of the set

@@ -1,7 +1,7 @@
 -- Lemmas on clearance.
 pub mod FirstFailing
 pub mod CellTests
-pub mod Looked
+pub mod BoxRows
 pub mod Barred
 pub mod Near
 pub mod Kept

@@ -1,4 +1,5 @@
 -- Clearance of hits at the hand's place.
+pub mod BaseLaws
 pub mod Frames
 pub mod MovedFrameLaws
 pub mod Clear

@@ -9,7 +9,7 @@ ghost use Rattle.lane_clear.specs.Clear.{AreBeyond, IsClear};
 ghost use Rattle.lane_clear.specs.declared.refusal.ClearRefusal.TheVariants.{Works};
 ghost use Rattle.lane_clear.specs.Refusals.{IsRefused};
 
-use crate::looking::{first_in_lane, first_near};
+use crate::first_cells::{first_in_lane, first_near};
 use crate::moved::moved_frame;
 use crate::refusal::ClearRefusal;
 use book_parts::Settings;

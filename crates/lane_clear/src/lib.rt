@@ -5,13 +5,14 @@
 mod barriers;
 pub mod built_set;
 pub mod clearance;
+mod first_cells;
 pub mod laws;
-mod looking;
 pub mod moved;
 pub mod refusal;
-mod rows;
+pub mod rows;
 
 pub use built_set::BuiltSet;
 pub use clearance::{are_beyond, clear_hit};
 pub use moved::moved_frame;
 pub use refusal::ClearRefusal;
+pub use rows::has_cell;

@@ -32,7 +32,7 @@ fn next_from(cells: &[Cell], left: i64, row: i64) -> Option<Cell>
 }
 
 /// Whether the box has the cell.
-fn has(bounds: Bounds, cell: Cell) -> bool
+pub fn has_cell(bounds: Bounds, cell: Cell) -> bool
     ensures { IsTrue result ↔ InBox bounds cell.x cell.y }
 {
     let right_of_left = bounds.left <= cell.x;
@@ -68,7 +68,7 @@ pub(crate) fn is_bare(cells: &[Cell], bounds: Bounds) -> bool
         if bounds.bottom < cell.y {
             return true;
         }
-        if has(bounds, cell) {
+        if has_cell(bounds, cell) {
             return false;
         }
         row = next_row(bounds, cell);

@@ -1,6 +1,6 @@
 use Rattle.std.proofs.Common.{arith}
 use Rattle.std.proofs.lemmas.Int.{ints}
-use Rattle.elbow_graph.proofs.Ending.{counted, more_counted, not_a_route}
+use Rattle.elbow_graph.proofs.LastTurns.{counted, more_counted, not_a_route}
 use Rattle.elbow_graph.proofs.states.elbow_states.Goals as goal
 
 pub returns-in-Nowhere-clause-some : goal.returns-in-Nowhere-clause-some

@@ -1,4 +1,4 @@
-use Rattle.elbow_graph.proofs.Ending.{none_closes, first_closes}
+use Rattle.elbow_graph.proofs.LastTurns.{none_closes, first_closes}
 use Rattle.elbow_graph.proofs.Tabling.{least_of}
 use Rattle.elbow_graph.proofs.way.closing.Goals as goal
 

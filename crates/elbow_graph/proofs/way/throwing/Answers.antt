@@ -4,7 +4,7 @@ use Rattle.std.proofs.lemmas.Int.{ints}
 use Rattle.breadth_search.specs.Leads.{IsFirstEnd}
 use Rattle.elbow_graph.specs.declared.goal.Goal.TheVariants as goals
 use Rattle.elbow_graph.specs.Goals.{Ends}
-use Rattle.elbow_graph.proofs.Ending.{none_throws, first_throws}
+use Rattle.elbow_graph.proofs.LastTurns.{none_throws, first_throws}
 use Rattle.elbow_graph.proofs.way.throwing.Goals as goal
 
 pub returns-in-Some : goal.returns-in-Some

@@ -1,4 +1,4 @@
-use Rattle.lane_clear.proofs.Looked.{found_place, missing_place}
+use Rattle.lane_clear.proofs.BoxRows.{found_place, missing_place}
 use Rattle.lane_clear.proofs.rows.first_from.Goals as goal
 
 pub returns-in-Ok : goal.returns-in-Ok

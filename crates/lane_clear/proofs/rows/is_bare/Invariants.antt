@@ -1,4 +1,4 @@
-use Rattle.lane_clear.proofs.Looked.{NoneAbove, rows_left}
+use Rattle.lane_clear.proofs.BoxRows.{NoneAbove, rows_left}
 use Rattle.lane_clear.proofs.rows.is_bare.Given as goal
 
 abbrev pub invariant-rows : goal.invariant-rows

@@ -2,7 +2,7 @@ use Rattle.std.proofs.Common.{ℤ, subst, arith}
 use Rattle.std.proofs.lemmas.Int.{ints}
 use Rattle.breadth_search.specs.Leads.{IsFirstLead}
 use Rattle.elbow_graph.specs.Goals.{Passes}
-use Rattle.elbow_graph.proofs.Ending.{first_passes}
+use Rattle.elbow_graph.proofs.LastTurns.{first_passes}
 use Rattle.elbow_graph.proofs.Leading.{first_by}
 use Rattle.elbow_graph.proofs.way.WayGraphElbow.first.Goals as goal
 

@@ -1,6 +1,6 @@
 use Rattle.life_cells.specs.Cells.{alive}
 use Rattle.lane_clear.specs.Frames.{moved_frame}
-use Rattle.lane_clear.proofs.Looked.{not_both}
+use Rattle.lane_clear.specs.BaseLaws.{not_both}
 use Rattle.lane_clear.proofs.Kept.{clear_from_parts, not_clear}
 use Rattle.lane_clear.proofs.built_set.BuiltSet.is_clear.Goals as goal
 

@@ -21,7 +21,7 @@ use Rattle.elbow_graph.specs.Goals.{MayPass, IsEnd, Passes, Ends, IsRoute, IsLea
 use Rattle.elbow_graph.specs.Numbered.{IsNumbered}
 use Rattle.elbow_graph.specs.States.{HasReached, HasReachedMore}
 use Rattle.elbow_graph.specs.Tables.{turn_key, key_of_end, passing_in, IsKeyed, IsLeastFrom, IsTurnOf, LeadsBy}
-use Rattle.elbow_graph.proofs.Numbers.{numbered_from_at, at_from_numbered}
+use Rattle.elbow_graph.specs.NumberedLaws.{numbered_from_at, at_from_numbered}
 
 -- ---- turns that may pass
 

@@ -1,7 +1,7 @@
 use Rattle.std.proofs.Common.{w64, to_z, of_z, arith}
 use Rattle.std.proofs.lemmas.Int.{ints}
-use Rattle.lane_clear.proofs.Looked.{in_box_test}
-use Rattle.lane_clear.proofs.rows.has.Goals as goal
+use Rattle.lane_clear.proofs.BoxRows.{in_box_test}
+use Rattle.lane_clear.proofs.rows.has_cell.Goals as goal
 
 pub returns : goal.returns
 returns c =

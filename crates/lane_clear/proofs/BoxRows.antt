@@ -1,19 +1,17 @@
 -- A box that is looked at row by row, in a list of cells in order.
-use Rattle.std.proofs.Common.{◌≡◌, ◌⊎◌, ◌↔◌, IsTrue, Bool, ◌&&◌, ℕ, ◌+◌, ◌<◌, ◌≤◌, true, false, ℤ, pos, ◌+ℤ◌, ◌-ℤ◌, ◌≤ℤ◌, ◌<ℤ◌, List, length, get_or, Err, refl, sym, ap, subst, ◌∙◌, arith, inl, inr}
-use Rattle.std.specs.Prelude.{negsuc, unsigned_abs, int_le}
+use Rattle.std.proofs.Common.{◌≡◌, ◌⊎◌, ◌↔◌, IsTrue, ◌&&◌, ℕ, ◌+◌, ◌<◌, ◌≤◌, true, false, ℤ, pos, ◌+ℤ◌, ◌-ℤ◌, ◌≤ℤ◌, ◌<ℤ◌, List, length, get_or, Err, sym, ap, subst, ◌∙◌, arith, inl, inr}
+use Rattle.std.specs.Prelude.{unsigned_abs, int_le}
 use Rattle.std.specs.List.{slice_get}
 use Rattle.std.specs.List.Sorted.{IsSorted, IsBinarySearchResult}
 use Rattle.std.specs.declared.option.Option.{Option}
 use Rattle.std.specs.declared.option.Option.TheVariants.{Some, None}
-use Rattle.std.specs.Option.{IfSome, IfNone, option_copied}
-use Rattle.std.specs.Slice.{IsItemAt}
-use Rattle.std.specs.Borrow.{Bor}
+use Rattle.std.specs.Option.{IfSome, IfNone}
 use Rattle.std.specs.declared.cmp.Ordering.TheVariants.{Less, Equal}
 use Rattle.std.specs.Ordering.{is_lt}
 use Rattle.std.specs.Cmp.{tied_itself}
 use Rattle.std.proofs.lemmas.Int.{ints}
 use Rattle.std.proofs.lemmas.Bool.{cases_lt, and_parts, and_from}
-use Rattle.std.proofs.lemmas.Option.{slice_get_past, slice_get-get_or, slice_get_cases, slice_get_within, get_or_from_slice_get}
+use Rattle.std.proofs.lemmas.Option.{slice_get_cases, slice_get_within, get_or_from_slice_get}
 use Rattle.std.proofs.lemmas.List.{get_or_default}
 use Rattle.std.proofs.lemmas.List.Sorted.{searchable_from_sorted}
 use Rattle.std.proofs.lemmas.Map.Keys.{Less-from_sorted}
@@ -28,6 +26,7 @@ use Rattle.life_cells.specs.Laws.{listed_at_place, place_of_listed}
 use Rattle.life_cells.specs.Listed.{listed}
 use Rattle.life_cells.specs.OrderLaws.{cells_total, cells_antisymmetric, comes_before, before_by_row, before_in_row, turned}
 use Rattle.lane_clear.specs.Bare.{IsBare, IsBefore, IsFrom, IsNext, IsRowAfter}
+use Rattle.lane_clear.specs.BaseLaws.{whole}
 
 -- ---- the place of a cell
 
@@ -117,10 +116,6 @@ all_before cs left row i first end x y lives =
 pub next_there : (cs : List Cell) (left left' row : ℤ) (c : Cell) → left ≡ left' → IsNext cs left row c → IsNext cs left' row c
 next_there cs left left' row c e h = subst (λ (l : ℤ). IsNext cs l row c) e h
 
-pub copied_item : (cs : List Cell) (i : ℕ) (r : Option (Bor Cell)) → IsItemAt cs i r → option_copied r ≡ slice_get cs i
-copied_item cs i None h = sym (slice_get_past cs i h.3)
-copied_item cs i (Some b) h = ap Some (h.3.1 b.now) ∙ sym (slice_get-get_or cs i b.now h.3.0)
-
 -- what a look-up of the place answers
 pub looked_up : (cs : List Cell) (left left' row row' : ℤ) (i : ℕ) (found : Option Cell) → left' ≡ left → row' ≡ row → IsRising cs → IsFirstFrom cs (cell left' row') i → found ≡ slice_get cs i →
     IfSome found (IsNext cs left row) × IfNone found (Each (IsBefore left row) (listed cs))
@@ -192,10 +187,6 @@ goes_down bounds cs row after c h next low outside is = by next.reached is.is
 
 -- ---- the rows that are left
 
-whole : (z : ℤ) → pos 0 ≤ℤ z → pos (unsigned_abs z) ≡ z
-whole (pos n) h = refl
-whole (negsuc n) h = absurd (omega (arith, ints))
-
 -- how many rows of the box are left from this one on
 abbrev pub rows_left : Bounds → ℤ → ℕ
 rows_left bounds row = unsigned_abs ((bounds.bottom +ℤ pos 1) -ℤ row)
@@ -209,9 +200,6 @@ fewer_rows bounds row after less low =
 -- a row after one in the box is at most the one behind the box
 pub last_row : (bounds : Bounds) (c : Cell) (row : ℤ) → c.y ≤ℤ bounds.bottom → IsRowAfter bounds c row → row ≤ℤ (bounds.bottom +ℤ pos 1)
 last_row bounds c row low after = elim after.is [ inl past ↦ let e = past.1 in omega (arith, ints) | inr short ↦ let e = short.1 in omega (arith, ints) ]
-
-pub not_both : {b : Bool} → b ≡ false → b ≡ true → ⊥
-not_both f t = cc
 
 -- ---- tests
 

@@ -1,7 +1,7 @@
 use Rattle.std.proofs.Common.{ℤ, pos, ◌+ℤ◌, ◌-ℤ◌, ◌*ℤ◌, w64, to_z, of_z, arith}
 use Rattle.std.proofs.lemmas.Int.{ints}
 use Rattle.lane_clear.proofs.CellTests.{aside_test}
-use Rattle.lane_clear.proofs.looking.is_aside.Goals as goal
+use Rattle.lane_clear.proofs.first_cells.is_aside.Goals as goal
 
 pub returns : goal.returns
 returns c =

@@ -2,7 +2,7 @@ use Rattle.std.proofs.Common.{◌↔◌, IsTrue, subst}
 use Rattle.life_cells.specs.declared.bounds.Bounds.{Bounds}
 use Rattle.life_cone.specs.FarBoxes.{AreFarBoxes}
 use Rattle.lane_clear.proofs.CellTests.{far_cell}
-use Rattle.lane_clear.proofs.looking.is_off_bounds.Goals as goal
+use Rattle.lane_clear.proofs.first_cells.is_off_bounds.Goals as goal
 
 pub returns : goal.returns
 returns c =

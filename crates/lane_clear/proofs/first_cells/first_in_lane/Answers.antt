@@ -1,7 +1,7 @@
 use Rattle.lane_clear.specs.Clear.{IsAside}
 use Rattle.lane_clear.specs.Frames.{farthest}
 use Rattle.lane_clear.proofs.FirstFailing.{holds_of_more, holds_of_all, first_failing}
-use Rattle.lane_clear.proofs.looking.first_in_lane.Goals as goal
+use Rattle.lane_clear.proofs.first_cells.first_in_lane.Goals as goal
 use Rattle.life_cone.specs.CellLaws.{place_in_range}
 
 pub is_aside-requires-clause-cell : goal.is_aside-requires-clause-cell

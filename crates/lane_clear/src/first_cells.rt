@@ -1,4 +1,4 @@
-//! Built cells, looked at one by one.
+//! The first built cell that is in the way of a hit.
 
 ghost use Rattle.std.specs.Prelude.{◌≡◌, ◌↔◌, ◌^◌, IsTrue, MatchOption};
 ghost use Rattle.life_plane.specs.Strips.{Each};
