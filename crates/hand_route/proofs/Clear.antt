@@ -10,6 +10,7 @@ use Rattle.book_parts.specs.declared.settings.Settings.{Settings}
 use Rattle.recipe_hit.specs.declared.frame.HitFrame.{HitFrame}
 use Rattle.recipe_hit.specs.declared.hit.Hit.{Hit}
 use Rattle.recipe_hit.specs.Checked.{Struck, IsSmallFrame}
+use Rattle.lane_clear.specs.BaseLaws.{not_both}
 use Rattle.lane_clear.specs.Clear.{IsClear}
 use Rattle.lane_clear.specs.Frames.{moved_frame, farthest, IsFrameInRange}
 use Rattle.hand_route.specs.Clearings.{IsSalvoClear, AreAllBeyond, AreAllAside, AreAllOff}
@@ -25,9 +26,6 @@ holds_more P xs i x lt is so here = subst (AllByRecursion P) (sym (take_more xs 
 -- all of them
 pub holds_of_all : {X : Type 0} (P : X → Type 0) (xs : List X) (i : ℕ) → length xs ≤ i → HoldsSoFar P xs i → IsTrue true ↔ AllByRecursion P xs
 holds_of_all P xs i long so = (λ _. subst (AllByRecursion P) (take_all i xs long) so, λ _. refl)
-
-pub not_both : {b : Bool} → b ≡ false → b ≡ true → ⊥
-not_both f t = cc
 
 -- not of this one, so not of all
 pub fails_here : {X : Type 0} (P : X → Type 0) (xs : List X) (i : ℕ) (x : X) (test : Bool) → i < length xs → x ≡ get_or xs i x → IsTrue test ↔ P x → test ≡ false → IsTrue false ↔ AllByRecursion P xs

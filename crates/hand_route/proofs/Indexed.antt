@@ -1,20 +1,14 @@
 -- Places of a room, row by row.
-use Rattle.std.proofs.Common.{◌≡◌, ◌↔◌, IsTrue, Bool, ◌&&◌, ℕ, suc, ◌+◌, ◌*◌, ◌<◌, ◌≤◌, ℤ, pos, ◌-ℤ◌, ◌≤ℤ◌, refl, sym, ap, subst, inl, inr, arith}
-use Rattle.std.specs.Prelude.{negsuc, unsigned_abs, int_le}
+use Rattle.std.proofs.Common.{◌≡◌, ◌↔◌, IsTrue, Bool, ◌&&◌, ℕ, suc, ◌+◌, ◌*◌, ◌<◌, ◌≤◌, ℤ, pos, ◌-ℤ◌, sym, ap, subst, inl, inr, arith}
+use Rattle.std.specs.Prelude.{unsigned_abs}
 use Rattle.std.proofs.lemmas.Int.{ints}
 use Rattle.std.proofs.lemmas.Bool.{cases_lt, and_parts, and_from}
-use Rattle.std.proofs.Math.Nat.{mul-le-mul_right}
-use Rattle.life_plane.specs.NumberLaws.{le_from_test, test_from_le}
+use Rattle.std.proofs.Math.Nat.{mul-le-mul_right, suc-mul}
 use Rattle.life_cells.specs.declared.cell.Cell.{Cell}
 use Rattle.life_cells.specs.declared.bounds.Bounds.{Bounds}
 use Rattle.life_cells.specs.Boxes.{InBox}
+use Rattle.lane_clear.specs.BaseLaws.{whole}
 use Rattle.hand_route.specs.Rooms.{IsSide, IsRoom, width_of, size_of, index_in}
-
--- ---- numbers past others
-
-pub whole : (z : ℤ) → pos 0 ≤ℤ z → pos (unsigned_abs z) ≡ z
-whole (pos n) h = refl
-whole (negsuc n) h = absurd (omega (arith, ints))
 
 -- ---- places row by row
 
@@ -22,11 +16,8 @@ whole (negsuc n) h = absurd (omega (arith, ints))
 earlier_row : (width row column other behind : ℕ) → column < width → row < other → row * width + column < other * width + behind
 earlier_row width row column other behind lt less =
     let rows : suc row * width ≤ other * width = mul-le-mul_right width (omega arith) in
-    let one : suc row * width ≡ row * width + width = suc_times row width in
+    let one : suc row * width ≡ row * width + width = suc-mul row width in
     omega arith
-  where
-    suc_times : (row width : ℕ) → suc row * width ≡ row * width + width
-    suc_times row width = omega arith
 
 pub same_row : (width row column other behind : ℕ) → column < width → behind < width → row * width + column ≡ other * width + behind → (row ≡ other) × (column ≡ behind)
 same_row width row column other behind lt lu e = elim (cases_lt row other) [
@@ -86,28 +77,6 @@ few_places room is =
     let rows : size_of room ≤ 3072 * width_of room = mul-le-mul_right (width_of room) (few_rows room is) in
     let columns = few_columns room is in
     omega arith
-
--- ---- whether a place is in the room
-
-pub in_box_test : (room : Bounds) (at : Cell) (left top right bottom x y : ℤ) → left ≡ room.left → top ≡ room.top → right ≡ room.right → bottom ≡ room.bottom → x ≡ at.x → y ≡ at.y →
-    IsTrue (((int_le left x && int_le top y) && int_le x right) && int_le y bottom) ↔ InBox room at.x at.y
-in_box_test room at left top right bottom x y el et er eb ex ey = (
-  λ h.
-      let last = and_parts ((int_le left x && int_le top y) && int_le x right) (int_le y bottom) h in
-      let third = and_parts (int_le left x && int_le top y) (int_le x right) last.0 in
-      let first = and_parts (int_le left x) (int_le top y) third.0 in
-      let l : left ≤ℤ x = le_from_test first.0 in
-      let t : top ≤ℤ y = le_from_test first.1 in
-      let r : x ≤ℤ right = le_from_test third.1 in
-      let b : y ≤ℤ bottom = le_from_test last.1 in
-      record { right_of_left = omega (arith, ints); below_top = omega (arith, ints); left_of_right = omega (arith, ints); above_bottom = omega (arith, ints) },
-  λ i.
-      let l : left ≤ℤ x = omega (arith, ints, i.right_of_left) in
-      let t : top ≤ℤ y = omega (arith, ints, i.below_top) in
-      let r : x ≤ℤ right = omega (arith, ints, i.left_of_right) in
-      let b : y ≤ℤ bottom = omega (arith, ints, i.above_bottom) in
-      and_from _ _ (and_from _ _ (and_from _ _ (test_from_le l) (test_from_le t)) (test_from_le r)) (test_from_le b),
-)
 
 -- ---- whether bounds are a room
 

@@ -1,15 +1,12 @@
 -- What is kept of the places that were found.
 use Rattle.std.proofs.Common.{◌≡◌, ◌⊎◌, ◌&&◌, Bool, true, ℕ, zero, suc, ◌+◌, ◌-◌, ◌<◌, ◌≤◌, List, [], ◌∷◌, ◌++◌, length, get_or, refl, sym, ap, subst, ◌∙◌, inl, inr, arith}
 use Rattle.std.specs.List.{slice_get, Contains, IsDistinct}
-use Rattle.std.specs.declared.option.Option.{Option}
-use Rattle.std.specs.declared.option.Option.TheVariants.{Some, None}
-use Rattle.std.specs.Option.{IfSome, IfNone}
+use Rattle.std.specs.declared.option.Option.TheVariants.{Some}
 use Rattle.std.specs.Ordering.{int_eq}
 use Rattle.std.specs.Cmp.Derive.{both_true}
 use Rattle.std.proofs.lemmas.List.{get_or_default}
 use Rattle.std.proofs.lemmas.Bool.{false_from_ne_true}
 use Rattle.std.proofs.lemmas.Cmp.{eq_by_cmp_equiv, int_eq_equiv}
-use Rattle.std.proofs.lemmas.List.Sums.{fold_push}
 use Rattle.std.proofs.lemmas.Map.Keys.{IsDistinct-push}
 use Rattle.std.proofs.lemmas.Map.Views.{Contains-from_any}
 use Rattle.std.proofs.lemmas.Option.{slice_get_within, get_or_from_slice_get}
@@ -20,17 +17,17 @@ use Rattle.life_cells.specs.OrderLaws.{cells_total, same_cell_is, same_cell-itse
 use Rattle.breadth_search.specs.declared.found.Label.{Label}
 use Rattle.breadth_search.specs.First.{IsLabelling}
 use Rattle.breadth_search.specs.Labelled.{Labelled}
-use Rattle.breadth_search.specs.Labels.{label, with_list, lists_of, AreLabelled, IsAdded}
+use Rattle.breadth_search.specs.Labels.{label, lists_of, AreLabelled, IsAdded}
 use Rattle.breadth_search.specs.Search.{first_of, IsSearched}
 use Rattle.breadth_search.specs.Walks.{IsLeastTo}
-use Rattle.breadth_search.specs.SearchLaws.{breadth_begins, breadth_stays, breadth_grows, breadth_turns}
+use Rattle.breadth_search.specs.SearchLaws.{lists_more, breadth_begins, breadth_stays, breadth_grows, breadth_turns}
 use Rattle.breadth_search.specs.SearchedLaws.{are_first, whole}
 use Rattle.hand_route.specs.declared.salvos.Carrier.{Carrier}
 use Rattle.hand_route.specs.Carriers.{Means}
 use Rattle.hand_route.specs.Rooms.{Places}
 use Rattle.hand_route.specs.Ways.{Ground, ground, carries, carried, past, IsNextCarrier, NoCarrierPast, IsKept}
-use Rattle.hand_route.proofs.Waying.{none_at_zero, carried_to}
-use Rattle.hand_route.proofs.Sorting.{placed_by}
+use Rattle.hand_route.proofs.CarriedPlaces.{none_at_zero, carried_to}
+use Rattle.elbow_graph.specs.NumberedLaws.{at_from_numbered}
 
 -- ---- numbers that were tried
 
@@ -57,9 +54,6 @@ kept_begins g from cells labels one none =
     (record { searched = breadth_begins (carries g) from; distinct = (tt, tt) }))
 
 -- ---- where the hand is carried to a new place
-
-lists_more : (labels : List Label) (mark : Label) → with_list (lists_of labels) mark ≡ lists_of (labels ++ mark ∷ [])
-lists_more labels mark = sym (fold_push with_list ([] ∷ []) labels mark)
 
 -- a place that isn't among them
 distinct_more : (cells : List Cell) (next : Cell) → IsDistinct same_cell cells → (Contains cells next → ⊥) → IsDistinct same_cell (cells ++ next ∷ [])
@@ -113,9 +107,9 @@ module _ (g : Ground) (from at : Cell) (place tried : ℕ) (cells : List Cell) (
 
       over : (k : ℕ) (to : Cell) → bound ≤ k → carries g k (get_or cells place from) to → ⊥
       over k to le leads =
-          let p = placed_by g.means.salvos k leads.salvo leads.moves.numbered in
-          let number_is = p.number_is in
-          let lt = slice_get_within g.means.salvos p.place leads.salvo p.at in
+          let p = at_from_numbered g.means.salvos k leads.salvo leads.moves.numbered in
+          let number_is = p.1.0 in
+          let lt = slice_get_within g.means.salvos p.0 leads.salvo p.1.1 in
           omega arith
 
 -- ---- what holds of the places
@@ -144,17 +138,6 @@ least_seen g from place tried cells labels all is kept m within list by_labels =
     subst P is (λ lt. subst (IsLeastTo (carries g) from (get_or cells m from)) (sym (by_labels (lists_of labels) kept.searched.labelled)) ((is_labelling g from place tried cells labels kept).first.least m lt)) within
 
 -- ---- as it goes on
-
-pub when_none : {X : Type 0} (P : Type 0) (o : Option X) → o ≡ None → IfNone o P → P
-when_none {X} P o is h = let R : Option X → Type 0 = λ p. IfNone p P in subst R is h
-
-pub when_some : {X : Type 0} (P : X → Type 0) (o : Option X) (x : X) → o ≡ Some x → IfSome o P → P x
-when_some {X} P o x is h = let R : Option X → Type 0 = λ p. IfSome p P in let there : IfSome (Some x) P = subst R is h in there
-
-pub past_end : {X : Type 0} (xs : List X) (k : ℕ) → None ≡ slice_get xs k → length xs ≤ k
-past_end [] k h = omega arith
-past_end (x ∷ xs) zero h = absurd (cc)
-past_end (x ∷ xs) (suc k) h = let rest = past_end xs k h in omega arith
 
 -- the first place is the one at which the ways begin
 first_is : (g : Ground) (from at : Cell) (place tried : ℕ) (cells : List Cell) (labels : List Label) → IsKept g from place tried cells labels → first_of cells at ≡ from

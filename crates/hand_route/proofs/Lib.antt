@@ -3,5 +3,5 @@ pub mod Clear
 pub mod Indexed
 pub mod Tabled
 pub mod Sorting
-pub mod Waying
+pub mod CarriedPlaces
 pub mod Kept

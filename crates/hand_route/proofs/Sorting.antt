@@ -1,12 +1,12 @@
 -- Salvos sorted one by one.
-use Rattle.std.proofs.Common.{◌≡◌, ◌⊎◌, ◌↔◌, IsTrue, Bool, true, false, not, ℕ, zero, suc, ◌+◌, ◌-◌, ◌<◌, ◌≤◌, List, [], ◌∷◌, ◌++◌, length, get_or, refl, sym, ap, subst, ◌∙◌, inl, inr, arith}
+use Rattle.std.proofs.Common.{◌≡◌, ◌⊎◌, ◌↔◌, IsTrue, Bool, true, false, not, ℕ, suc, ◌+◌, ◌-◌, ◌<◌, ◌≤◌, List, [], ◌∷◌, ◌++◌, length, get_or, refl, sym, ap, subst, ◌∙◌, inl, inr, arith}
 use Rattle.std.specs.List.{slice_get}
 use Rattle.std.specs.declared.option.Option.{Option}
 use Rattle.std.specs.declared.option.Option.TheVariants.{Some, None}
 use Rattle.std.specs.Option.{is_some}
 use Rattle.life_cells.specs.declared.cell.Cell.{Cell}
 use Rattle.std.proofs.lemmas.List.{length_push}
-use Rattle.std.proofs.lemmas.Option.{slice_get_within, slice_get-get_or}
+use Rattle.std.proofs.lemmas.Option.{slice_get_within, slice_get_read}
 use Rattle.life_plane.specs.ListLaws.{same_item, at_left}
 use Rattle.life_plane.specs.NumberLaws.{lt_or_same}
 use Rattle.life_plane.specs.Plane.{nothing}
@@ -14,29 +14,11 @@ use Rattle.life_cells.specs.Cells.{Cells, alive, empty}
 use Rattle.life_cells.specs.Laws.{alive-empty, same_cells}
 use Rattle.book_parts.specs.Proper.{IsProperSalvo, IsProperPlace}
 use Rattle.elbow_graph.specs.Numbered.{IsNumbered}
+use Rattle.elbow_graph.specs.NumberedLaws.{numbered_from_at, at_from_numbered}
 use Rattle.recipe_hit.specs.Checked.{Struck}
 use Rattle.hand_route.specs.declared.salvos.Carrier.{Carrier}
 use Rattle.hand_route.specs.Moves.{BuildsNothing}
 use Rattle.hand_route.specs.Carriers.{HasSalvo, AreItems, CarriesBy, IsNear}
-
--- ---- numbers and places
-
-pub numbered_at : {X : Type 0} (xs : List X) (place : ℕ) (x : X) → slice_get xs place ≡ Some x → IsNumbered xs (suc place) x
-numbered_at [] place x at = absurd (cc)
-numbered_at (y ∷ ys) zero x at = same_item at refl
-numbered_at (y ∷ ys) (suc place) x at = numbered_at ys place x at
-
--- the place of the item with a number
-pub record IsPlaced {X : Type 0} (xs : List X) (number : ℕ) (x : X) : Type 0 where
-  pub place : ℕ
-  pub number_is : number ≡ suc place
-  pub at : slice_get xs place ≡ Some x
-
-pub placed_by : {X : Type 0} (xs : List X) (number : ℕ) (x : X) → IsNumbered xs number x → IsPlaced xs number x
-placed_by [] number x h = absurd h
-placed_by (y ∷ ys) zero x h = absurd h
-placed_by (y ∷ ys) (suc zero) x h = record { place = 0; number_is = refl; at = ap Some (sym h) }
-placed_by (y ∷ ys) (suc (suc k)) x h = let rest = placed_by ys (suc k) x h in record { place = suc rest.place; number_is = ap suc rest.number_is; at = rest.at }
 
 -- ---- items at the end of a list
 
@@ -86,7 +68,7 @@ module _ {X : Type 0} (number : X → ℕ) (Of : Struck → X → Type 0) (salvo
   pushed place items after salvo x h here is of only grown = subst (AreSoFar number Of salvos (place + 1)) (sym grown) (record {
     each = λ k y at. elim (item_cases items x k y at) [
       | inl was ↦ h.each k y was
-      | inr last ↦ subst (HasSalvo number Of salvos) (sym last.1) (record { salvo = salvo; numbered = subst (λ n. IsNumbered salvos n salvo) next (numbered_at salvos place salvo here); of = of })
+      | inr last ↦ subst (HasSalvo number Of salvos) (sym last.1) (record { salvo = salvo; numbered = subst (λ n. IsNumbered salvos n salvo) next (numbered_from_at salvos place salvo here); of = of })
     ];
     before = λ k y at. elim (item_cases items x k y at) [
       | inl was ↦ let b = h.before k y was in omega arith
@@ -116,7 +98,7 @@ module _ {X : Type 0} (number : X → ℕ) (Of : Struck → X → Type 0) (salvo
   all_so_far place items long h = record {
     each = h.each;
     rising = h.rising;
-    all = λ salvo x numbered of. let there = placed_by salvos (number x) salvo numbered in h.all there.place salvo x (let lt = slice_get_within salvos there.place salvo there.at in omega arith) there.at there.number_is of;
+    all = λ salvo x numbered of. let there = at_from_numbered salvos (number x) salvo numbered in h.all there.0 salvo x (let lt = slice_get_within salvos there.0 salvo there.1.1 in omega arith) there.1.1 there.1.0 of;
   }
 
 -- ---- what a salvo's item says
@@ -133,10 +115,6 @@ near_by salvo c proper carries = let p : IsProperPlace (Some c.by) = subst IsPro
 pub one_way : (salvo : Struck) (a b : Carrier) → a.number ≡ b.number → CarriesBy salvo a → CarriesBy salvo b → a ≡ b
 one_way salvo a b e h k = let by : a.by ≡ b.by = same_item h.carries k.carries in λ i. record { number = e i; by = by i }
 
--- the item that stands at a place
-pub item_there : {X : Type 0} (xs : List X) (place : ℕ) (x : X) → place < length xs → x ≡ get_or xs place x → slice_get xs place ≡ Some x
-item_there xs place x lt is = slice_get-get_or xs place x lt ∙ ap Some (sym is)
-
 pub none_test : (o hand : Option Cell) (none : Bool) → is_some o ≡ not none → o ≡ hand → IsTrue none ↔ (hand ≡ None)
 none_test o hand none is same = subst (λ (h : Option Cell). IsTrue none ↔ (h ≡ None)) same (by o none is)
   where
@@ -147,11 +125,11 @@ none_test o hand none is same = subst (λ (h : Option Cell). IsTrue none ↔ (h 
     by (Some c) false is = (λ h. cc, λ e. cc)
 
 pub number_within : {X : Type 0} (xs : List X) (number : ℕ) (x : X) → IsNumbered xs number x → number - 1 < length xs
-number_within xs number x h = let p = placed_by xs number x h in let e = p.number_is in let lt = slice_get_within xs p.place x p.at in omega arith
+number_within xs number x h = let p = at_from_numbered xs number x h in let e = p.1.0 in let lt = slice_get_within xs p.0 x p.1.1 in omega arith
 
 pub numbered_there : {X : Type 0} (xs : List X) (number : ℕ) (x y : X) → IsNumbered xs number x → y ≡ get_or xs (number - 1) y → IsNumbered xs number y
 numbered_there {X} xs number x y h is =
-    let p = placed_by xs number x h in
-    let before : number - 1 ≡ p.place = (let e = p.number_is in omega arith) in
-    let there : slice_get xs p.place ≡ Some y = item_there xs p.place y (slice_get_within xs p.place x p.at) (is ∙ ap (λ n. get_or xs n y) before) in
-    subst (λ n. IsNumbered xs n y) (sym p.number_is) (numbered_at xs p.place y there)
+    let p = at_from_numbered xs number x h in
+    let before : number - 1 ≡ p.0 = (let e = p.1.0 in omega arith) in
+    let there : slice_get xs p.0 ≡ Some y = slice_get_read xs (length xs) p.0 y refl (slice_get_within xs p.0 x p.1.1) (is ∙ ap (λ n. get_or xs n y) before) in
+    subst (λ n. IsNumbered xs n y) (sym p.1.0) (numbered_from_at xs p.0 y there)

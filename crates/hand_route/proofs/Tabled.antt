@@ -1,14 +1,10 @@
 -- The table of the places that were found.
 use Rattle.std.proofs.Common.{◌≡◌, ◌⊎◌, ℕ, zero, suc, ◌+◌, ◌<◌, List, [], ◌∷◌, ◌++◌, length, get_or, refl, sym, ap, subst, ◌∙◌, inl, inr, arith, get_or-set_same, get_or-set_other}
 use Rattle.std.proofs.Math.ListN.{set, length-set}
-use Rattle.std.specs.List.{slice_get, Contains}
-use Rattle.std.specs.declared.option.Option.{Option}
-use Rattle.std.specs.declared.option.Option.TheVariants.{Some, None}
-use Rattle.std.specs.Option.{option_copied}
-use Rattle.std.specs.Slice.{IsItemAt}
-use Rattle.std.specs.Borrow.{Bor}
+use Rattle.std.specs.List.{Contains}
+use Rattle.std.specs.declared.option.Option.TheVariants.{Some}
 use Rattle.std.proofs.lemmas.List.{get_or_push, get_or_append_left, length_push}
-use Rattle.std.proofs.lemmas.Option.{slice_get_past, slice_get-get_or, slice_get_within}
+use Rattle.std.proofs.lemmas.Option.{slice_get-get_or, slice_get_within}
 use Rattle.std.proofs.lemmas.Bool.{cases_eq}
 use Rattle.std.proofs.lemmas.List.{get_or-replicate}
 use Rattle.std.proofs.Math.ListN.{replicate, length-replicate}
@@ -103,8 +99,3 @@ table_of_more room next cells after table index count at h inside new grown is =
   where
     many : count ≡ length cells + 1
     many = is ∙ ap length grown ∙ length_push cells next
-
--- what a look-up answers, copied
-pub copied_item : (cs : List Cell) (i : ℕ) (r : Option (Bor Cell)) → IsItemAt cs i r → option_copied r ≡ slice_get cs i
-copied_item cs i None h = sym (slice_get_past cs i h.3)
-copied_item cs i (Some b) h = ap Some (h.3.1 b.now) ∙ sym (slice_get-get_or cs i b.now h.3.0)

@@ -4,6 +4,7 @@ ghost use Rattle.std.specs.Prelude.{◌≡◌, ◌↔◌, ◌^◌, ◌<◌, ◌�
 ghost use Rattle.life_cells.specs.Boxes.{InBox};
 ghost use Rattle.hand_route.specs.Rooms.{IsSide, IsRoom, width_of, size_of, index_in};
 
+use lane_clear::has_cell;
 use life_cells::{Bounds, Cell};
 
 /// The most places of a room from left to right, and from top to bottom.
@@ -61,11 +62,7 @@ pub(crate) fn size(room: Bounds) -> usize
 pub fn has(room: Bounds, at: Cell) -> bool
     ensures { IsTrue result ↔ InBox room at.x at.y }
 {
-    let right_of_left = room.left <= at.x;
-    let below_top = room.top <= at.y;
-    let left_of_right = at.x <= room.right;
-    let above_bottom = at.y <= room.bottom;
-    right_of_left & below_top & left_of_right & above_bottom
+    has_cell(room, at)
 }
 
 /// Where a place of the room stands among all of them, row by row, counted from 0.

@@ -33,8 +33,9 @@ pub struct HandWays<'a> {
     built: &'a BuiltSet,
     from: Cell,
     found: Found,
-    // The place whose turn it is, by its number, and the greatest number of a salvo that was tried there.
+    /// The place whose turn it is, by its number.
     place: usize,
+    /// The greatest number of a salvo that was tried there.
     tried: usize,
 }
 

@@ -17,7 +17,7 @@ use Rattle.plan_facts.specs.State.{State, hand_plane, first_hand, first_state}
 use Rattle.plan_facts.specs.State.Hand.{Gone, Rests}
 use Rattle.plan_facts.specs.MayTurn.{after_turn}
 use Rattle.plan_facts.specs.Facts.{IsConstruction}
-use Rattle.plan_facts.specs.ListLaws.{GoesWell, goes_well}
+use Rattle.plan_facts.specs.FirstHandLaws.{hand_at_first}
 use Rattle.build_plan.specs.declared.plan.Plan.{Plan}
 use Rattle.build_plan.specs.declared.error.PlanError.TheVariants.{Memory}
 use Rattle.build_plan.specs.Happenings.{AllStandFor}
@@ -26,28 +26,6 @@ use Rattle.build_plan.specs.Stops.{PlanStops}
 use Rattle.stream_build.specs.Built.{plan_pattern, IsBuilt}
 use Rattle.stream_build.specs.Laying.{laid}
 use Rattle.stream_build.specs.declared.building.Built.{Built}
-
-module _ (settings : Settings) (kinds : List RawKind) (hand target : Plane) where
-  rests_gone : (place : Cell) → Rests place ≡ Gone → ⊥
-  rests_gone place e = cc
-
-  -- a hand that rests is hit
-  is_hit_then : (happenings : List Happening) (state : State) (place : Cell) → state.hand ≡ Rests place → GoesWell settings kinds hand target state happenings → timed.has_hit (events_of happenings) ≡ true
-  is_hit_then [] state place is goes = absurd (rests_gone place (sym is ∙ goes.no_hand))
-  is_hit_then (Turns m ∷ happenings) state place is goes = is_hit_then happenings (after_turn state m) place is goes.1
-  is_hit_then (Hits h ∷ happenings) state place is goes = refl
-
-  if_none : (b : Bool) → (if b then nothing else nothing) ≡ nothing
-  if_none true = refl
-  if_none false = refl
-
-  -- the first hand is the one that stands there at first
-  pub hand_at_first : (start : ℕ) (first : Option Cell) (happenings : List Happening) → IsConstruction settings kinds start hand first happenings target →
-      timed.first_hand (hand_plane hand (first_hand first)) (events_of happenings) ≡ hand_plane hand (first_hand first)
-  hand_at_first start None happenings c = if_none (timed.has_hit (events_of happenings))
-  hand_at_first start (Some place) happenings c =
-      ap (λ b. if b then shift place.x place.y hand else nothing)
-      (is_hit_then happenings (first_state start (Some place)) place refl (goes_well settings kinds hand target (first_state start (Some place)) happenings c.all_may c.done))
 
 -- there and back
 pub moved_back : (target : Plane) (back : Cell) → shift back.x back.y (shift (neg_ℤ back.x) (neg_ℤ back.y) target) ≡ target

@@ -12,25 +12,12 @@ use Rattle.life_cells.specs.Laws.{listed-append}
 use Rattle.book_parts.specs.declared.settings.Settings.{Settings}
 use Rattle.book_parts.specs.Proper.{IsDelay}
 use Rattle.recipe_turn.specs.Turn.{gliders}
+use Rattle.recipe_turn.specs.GliderLaws.{own, gliders_push}
 use Rattle.stream_build.specs.Laying.{IsTime}
 
--- a delay that is read is what it was
-pub delay_read : (z : ℤ) → IsDelay z → to_z w64 (of_z w64 z) ≡ z
-delay_read z h = let low = h.low in let high = h.high in omega (arith, ints)
-
--- so is a time
+-- a time that is read is what it was
 pub time_read : (z : ℤ) → IsTime z → to_z w64 (of_z w64 z) ≡ z
 time_read z h = let low = h.low in let high = h.high in omega (arith, ints)
-
--- the glider of one delay at a time
-abbrev pub own : Settings → ℤ → ℤ → Plane
-own settings t delay = stream_glider ((t -ℤ settings.approach) -ℤ delay)
-
--- one more delay is one more glider
-gliders_push : (settings : Settings) (ds : List ℤ) (d t x y : ℤ) → gliders settings (ds ++ d ∷ []) t x y ≡ (gliders settings ds t x y || own settings t d x y)
-gliders_push settings [] d t x y = or-false (own settings t d x y)
-gliders_push settings (e ∷ ds) d t x y =
-    ap (λ b. own settings t e x y || b) (gliders_push settings ds d t x y) ∙ sym (or_assoc (own settings t e x y) (gliders settings ds t x y) (own settings t d x y))
 
 -- the cells of one more glider, joined to those so far
 pub one_more : (old : Plane) (settings : Settings) (ds : List ℤ) (t : ℤ) (i : ℕ) (d : ℤ) (sofar five all : List Cell) → i < length ds → listed sofar ≡ union old (gliders settings (take i ds) t) →

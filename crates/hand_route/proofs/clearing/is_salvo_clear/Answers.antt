@@ -1,6 +1,7 @@
 use Rattle.std.proofs.Common.{false, refl}
 use Rattle.life_cells.specs.Cells.{alive}
-use Rattle.hand_route.proofs.Clear.{not_both, clear_test, never_clear, beyond_of_clear, aside_of_clear}
+use Rattle.lane_clear.specs.BaseLaws.{not_both}
+use Rattle.hand_route.proofs.Clear.{clear_test, never_clear, beyond_of_clear, aside_of_clear}
 use Rattle.hand_route.proofs.clearing.is_salvo_clear.Goals as goal
 
 pub returns-then-are_all_aside : goal.returns-then-are_all_aside

@@ -1,6 +1,6 @@
 use Rattle.std.proofs.Common.{refl, sym, ap, ◌∙◌}
 use Rattle.book_parts.specs.declared.salvo.RawSalvo.{RawSalvo}
-use Rattle.hand_route.proofs.Clear.{not_both}
+use Rattle.lane_clear.specs.BaseLaws.{not_both}
 use Rattle.hand_route.proofs.Sorting.{nothing_built, near_by}
 use Rattle.hand_route.proofs.salvos.carrier_of.Goals as goal
 

@@ -1,8 +1,8 @@
 use Rattle.std.proofs.Common.{arith}
 use Rattle.std.proofs.lemmas.Int.{ints}
 use Rattle.hand_route.specs.Ways.{ground}
-use Rattle.hand_route.proofs.Clear.{not_both}
-use Rattle.hand_route.proofs.Waying.{near_by, clear_there, not_new, not_clear, new_test, clear_by}
+use Rattle.lane_clear.specs.BaseLaws.{not_both}
+use Rattle.hand_route.proofs.CarriedPlaces.{near_by, clear_there, not_new, not_clear, new_test, clear_by}
 use Rattle.hand_route.proofs.ways.carries_on.Goals as goal
 
 pub carried-requires-clause-by : goal.carried-requires-clause-by

@@ -1,8 +1,8 @@
 use Rattle.std.proofs.Common.{arith}
 use Rattle.std.proofs.lemmas.Int.{ints}
 use Rattle.std.proofs.lemmas.Option.{slice_get-get_or}
-use Rattle.hand_route.proofs.Clear.{not_both}
-use Rattle.hand_route.proofs.Waying.{none_takes_yet, one_more_fails, first_takes, none_takes, clear_by}
+use Rattle.lane_clear.specs.BaseLaws.{not_both}
+use Rattle.hand_route.proofs.CarriedPlaces.{none_takes_yet, one_more_fails, first_takes, none_takes, clear_by}
 use Rattle.hand_route.proofs.ways.first_taker.Goals as goal
 
 pub loop-number-init : goal.loop-number-init

@@ -1,4 +1,4 @@
-use Rattle.hand_route.proofs.Waying.{NoneTakesSoFar}
+use Rattle.hand_route.proofs.CarriedPlaces.{NoneTakesSoFar}
 use Rattle.hand_route.proofs.ways.first_taker.Given as goal
 
 abbrev pub invariant-loop-number : goal.invariant-loop-number

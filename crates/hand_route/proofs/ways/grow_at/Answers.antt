@@ -6,7 +6,7 @@ use Rattle.life_cells.specs.Boxes.{InBox}
 use Rattle.breadth_search.specs.Labels.{label, IsAdded}
 use Rattle.breadth_search.specs.Search.{first_of}
 use Rattle.hand_route.specs.Ways.{ground, IsKept}
-use Rattle.hand_route.proofs.Waying.{near_in_room, near_by}
+use Rattle.hand_route.proofs.CarriedPlaces.{near_in_room, near_by}
 use Rattle.hand_route.proofs.Kept.{kept_adds}
 use Rattle.hand_route.proofs.ways.grow_at.Goals as goal
 

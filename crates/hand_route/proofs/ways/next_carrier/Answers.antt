@@ -1,7 +1,7 @@
 use Rattle.std.proofs.Common.{arith}
 use Rattle.std.proofs.lemmas.Option.{slice_get-get_or}
 use Rattle.hand_route.specs.Ways.{ground}
-use Rattle.hand_route.proofs.Waying.{some_carrier, carrier_there, none_tried, one_more_tried, next_is, none_is}
+use Rattle.hand_route.proofs.CarriedPlaces.{some_carrier, carrier_there, none_tried, one_more_tried, next_is, none_is}
 use Rattle.hand_route.proofs.ways.next_carrier.Goals as goal
 use Rattle.hand_route.proofs.ways.next_carrier.Goals.{else-carrier-tried-via-then-carrier-tried+else-carries_on, else-carrier-tried-via-else-carrier-tried}
 

@@ -1,4 +1,4 @@
-use Rattle.hand_route.proofs.Waying.{AreTriedSoFar}
+use Rattle.hand_route.proofs.CarriedPlaces.{AreTriedSoFar}
 use Rattle.hand_route.specs.Ways.{ground}
 use Rattle.hand_route.proofs.ways.next_carrier.Given as goal
 

@@ -1,8 +1,8 @@
 use Rattle.std.proofs.Common.{List, ◌∙◌, ap}
 use Rattle.std.specs.List.{slice_get}
 use Rattle.life_cells.specs.declared.cell.Cell.{Cell}
-use Rattle.hand_route.proofs.Tabled.{copied_item}
-use Rattle.hand_route.proofs.Waying.{near_at}
+use Rattle.lane_clear.specs.BaseLaws.{copied_item}
+use Rattle.hand_route.proofs.CarriedPlaces.{near_at}
 use Rattle.hand_route.proofs.found.Found.at.Goals as goal
 
 pub returns-clause-near : goal.returns-clause-near

@@ -1,11 +1,12 @@
 use Rattle.std.proofs.Common.{arith, sym, subst}
 use Rattle.elbow_graph.specs.Numbered.{IsNumbered}
 use Rattle.hand_route.specs.Carriers.{Means}
-use Rattle.hand_route.proofs.Sorting.{placed_by, number_within, numbered_there}
+use Rattle.elbow_graph.specs.NumberedLaws.{at_from_numbered}
+use Rattle.hand_route.proofs.Sorting.{number_within, numbered_there}
 use Rattle.hand_route.proofs.salvos.HandSalvos.salvo.Goals as goal
 
 pub overflow_sub-result : goal.overflow_sub-result
-overflow_sub-result c = let p = placed_by _ c.args.number c.requires.0 c.requires.1 in let e = p.number_is in omega arith
+overflow_sub-result c = let p = at_from_numbered _ c.args.number c.requires.0 c.requires.1 in let e = p.1.0 in omega arith
 
 pub offset_bounds-salvos-number : goal.offset_bounds-salvos-number
 offset_bounds-salvos-number c =

@@ -19,7 +19,7 @@ use Rattle.life_cells.specs.Listed.{same_cell}
 use Rattle.life_cells.specs.OrderLaws.{same_cell_is, same_cell-itself}
 use Rattle.book_parts.specs.declared.settings.Settings.{Settings}
 use Rattle.elbow_graph.specs.Numbered.{IsNumbered}
-use Rattle.elbow_graph.specs.NumberedLaws.{numbered_once}
+use Rattle.elbow_graph.specs.NumberedLaws.{numbered_once, at_from_numbered}
 use Rattle.recipe_hit.specs.Checked.{Struck}
 use Rattle.hand_route.specs.declared.salvos.Carrier.{Carrier}
 use Rattle.breadth_search.specs.Leads.{IsFirstEnd}
@@ -28,8 +28,7 @@ use Rattle.hand_route.specs.Clearings.{IsSalvoClear}
 use Rattle.hand_route.specs.Moves.{BuildsNothing, moved_by, leaves_hand}
 use Rattle.hand_route.specs.Rooms.{IsRoom, IsTable}
 use Rattle.hand_route.specs.Ways.{Ground, ground, carries, takes, carried, CarriesOn, CarriesBack, IsNextCarrier, NoCarrierPast}
-use Rattle.hand_route.proofs.Clear.{not_both}
-use Rattle.hand_route.proofs.Sorting.{placed_by}
+use Rattle.lane_clear.specs.BaseLaws.{not_both}
 
 -- ---- ranges
 
@@ -46,16 +45,13 @@ near_by c near =
 
 -- ---- one salvo
 
-some_cell : {a b : Cell} → Some a ≡ Some b → a ≡ b
-some_cell e = cc
-
 -- numbers count from 1
 pub none_at_zero : (g : Ground) (at to : Cell) → carries g 0 at to → ⊥
-none_at_zero g at to h = let p = placed_by g.means.salvos 0 h.salvo h.moves.numbered in let e = p.number_is in omega arith
+none_at_zero g at to h = let p = at_from_numbered g.means.salvos 0 h.salvo h.moves.numbered in let e = p.1.0 in omega arith
 
 -- what a salvo states of the hand, from where it leaves it
 stated : (from by to : Cell) → moved_by from (Some by) ≡ Some to → to ≡ cell (from.x +ℤ by.x) (from.y +ℤ by.y)
-stated from by to e = some_cell (sym e)
+stated from by to e = same_item e refl
 
 -- where the salvo of a carrier carries the hand
 pub carried_to : (g : Ground) (at to : Cell) (c : Carrier) → IsCarrier g.means.salvos c → carries g c.number at to → to ≡ carried at c
