@@ -1,12 +1,12 @@
 -- The numbers that are tried at one place of a search.
-use Rattle.std.proofs.Common.{◌≡◌, ◌⊎◌, ℕ, zero, suc, ◌+◌, ◌-◌, ◌<◌, ◌≤◌, List, [], ◌∷◌, ◌++◌, length, get_or, Bool, true, false, MatchBool, IfNone, IfSome, Option, Some, None, inl, inr, sym, ap, subst, ◌∙◌, arith}
+use Rattle.std.proofs.Common.{◌≡◌, ◌⊎◌, ℕ, suc, ◌+◌, ◌-◌, ◌<◌, ◌≤◌, List, [], ◌∷◌, ◌++◌, length, get_or, Bool, true, false, MatchBool, Option, Some, None, inl, inr, sym, ap, subst, ◌∙◌, arith}
 use Rattle.std.specs.List.{slice_get, Contains}
 use Rattle.std.proofs.lemmas.List.{get_or_append_left, get_or_default}
 use Rattle.std.proofs.lemmas.Option.{slice_get_within, get_or_from_slice_get}
 use Rattle.life_plane.specs.NumberLaws.{lt_or_same}
 use Rattle.breadth_search.specs.declared.found.Label.{Label}
 use Rattle.breadth_search.specs.declared.graph.Lead.{Lead}
-use Rattle.breadth_search.specs.Labels.{label, with_list, lists_of, IsAdded, IsSame}
+use Rattle.breadth_search.specs.Labels.{label, lists_of, IsAdded, IsSame}
 use Rattle.breadth_search.specs.Search.{first_of, bound_past, IsLast, IsSearched, IsSearching, IsKept}
 use Rattle.breadth_search.specs.Leads.{IsLead}
 use Rattle.breadth_search.specs.SearchLaws.{lists_more, breadth_begins, breadth_stays, breadth_grows, breadth_turns}

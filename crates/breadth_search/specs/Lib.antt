@@ -17,4 +17,3 @@ pub mod StateLaws
 pub mod ShortnessLaws
 pub mod Answers
 pub mod KeyLaws
-pub mod ItemLaws

@@ -1,10 +1,10 @@
 -- What a plan builds is the target at its place.
-use Rattle.std.specs.Prelude.{◌≡◌, ◌⊎◌, true, false, neg_ℤ, ℤ, ◌-ℤ◌, List, [], ◌∷◌, Option}
+use Rattle.std.specs.Prelude.{◌≡◌, ◌⊎◌, true, false, neg_ℤ, ◌-ℤ◌, List, [], ◌∷◌, Option}
 use Rattle.std.specs.declared.option.Option.TheVariants.{None}
 use Rattle.std.specs.List.{AllByRecursion}
 use Rattle.std.specs.Cmp.{both_ways}
-use Rattle.std.proofs.Common.{sym, ap, subst, ◌∙◌, arith, inl, inr}
-use Rattle.std.proofs.lemmas.Int.{ints}
+use Rattle.std.proofs.Common.{sym, ap, subst, ◌∙◌, inl, inr}
+use Rattle.std.proofs.Math.IntN.{neg_ℤ-neg_ℤ}
 use Rattle.std.proofs.lemmas.Bool.{or_cases, or_left, or_right, cases_Bool}
 use Rattle.life_plane.specs.Plane.{Plane, union, shift, same_plane}
 use Rattle.life_cells.specs.Cells.{alive, cell}
@@ -135,9 +135,6 @@ builds_target book target plan is =
     (covered_all s book is.placing.room _ is.plans.course.last is.plans.course.taken
     (record { all = λ c h. inr (is.islands_are.all c h); within = λ c h. absurd (not_true h); noted = is.islands_are.each }) c.takes) c.all_built
 
-twice : (z : ℤ) → neg_ℤ (neg_ℤ z) ≡ z
-twice z = omega (arith, ints)
-
 -- so whatever its events stand for is a construction of it
 pub plan_constructs : (book : CheckedEntries) → IsCheckedBook book → (target : Plane) (plan : Plan) → IsPlan book target plan → (happenings : List Happening) → AllStandFor book plan.events.items happenings →
     IsConstruction book.settings book.kinds book.start (alive book.hand) plan.first_hand happenings (shift (neg_ℤ plan.back.x) (neg_ℤ plan.back.y) target)
@@ -155,7 +152,7 @@ plan_constructs book checked target plan is happenings stand =
   where
     back : moved_target target is.placing.by ≡ shift (neg_ℤ plan.back.x) (neg_ℤ plan.back.y) target
     back =
-        (λ i. shift (sym (twice is.placing.by.x) i) (sym (twice is.placing.by.y) i) target)
+        (λ i. shift (sym (neg_ℤ-neg_ℤ is.placing.by.x) i) (sym (neg_ℤ-neg_ℤ is.placing.by.y) i) target)
         ∙ (λ i. shift (neg_ℤ (sym is.plans.back_is i).x) (neg_ℤ (sym is.plans.back_is i).y) target)
 
     c : Comes book (first_state book.start (first_place is.plans.course.taken)) happenings (rests_at None None Gone is.plans.course.last.built)

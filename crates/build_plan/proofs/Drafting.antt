@@ -28,7 +28,7 @@ use Rattle.build_plan.specs.declared.trial.Trial.{Trial}
 use Rattle.build_plan.specs.declared.walk.Walk.{Walk}
 use Rattle.build_plan.specs.Drafts.{AreNear, AreLeft, IsFirstDraft, stand_at, HasFarewell, first_or, TakesOne, IsDraftTo}
 use Rattle.build_plan.specs.Fits.{Fits, IsOutside, AreLeftAfter}
-use Rattle.build_plan.specs.NumberLaws.{numbered_item}
+use Rattle.elbow_graph.specs.NumberedLaws.{numbered_from_at}
 use Rattle.build_plan.specs.Plan.{most_gliders, first_stand, TakeOn, taken_events, first_place, gliders_in}
 use Rattle.build_plan.specs.ServedWalk.{AddsEvents}
 use Rattle.build_plan.specs.Stand.{Stand}
@@ -38,7 +38,7 @@ use Rattle.build_plan.specs.Usable.{Taken, product_of, hand_after, IsUsable, IsT
 use Rattle.build_plan.proofs.FromBook.{sound_salvos}
 use Rattle.build_plan.proofs.Gliders.{gliders_both, events_both}
 use Rattle.build_plan.proofs.OnIsland.{fits_on, rest_left}
-use Rattle.build_plan.proofs.OneTaken.{those_once}
+use Rattle.recipe_book.specs.EntryLaws.{those_once}
 
 -- ---- the islands from a place on
 
@@ -175,7 +175,7 @@ module _ (book : CheckedEntries) (placing : Placing) (islands : List Island) (pl
         others = drop (suc place) islands;
         left_is = drop-cons islands place island lt ∙ ap (λ (i : Island). i ∷ drop (suc place) islands) (sym is);
         none = none;
-        number_is = subst (λ (k : ℕ). IsNumbered islands k island) number (numbered_item islands place island (there ∙ ap Some (sym is)));
+        number_is = subst (λ (k : ℕ). IsNumbered islands k island) number (numbered_from_at islands place island (there ∙ ap Some (sym is)));
         at_is = at_is;
       }
 

@@ -9,6 +9,7 @@ use Rattle.book_parts.specs.declared.settings.Settings.{Settings}
 use Rattle.book_parts.specs.declared.kind.RawKind.{RawKind}
 use Rattle.book_parts.specs.declared.turn.RawTurn.{RawTurn}
 use Rattle.elbow_graph.specs.Numbered.{IsNumbered}
+use Rattle.elbow_graph.specs.NumberedLaws.{of_number}
 use Rattle.recipe_turn.specs.Checked.{Checked, AreValid, IsChecked, IsOf, raws}
 use Rattle.recipe_turn.specs.Kind.{IsValidKind}
 use Rattle.recipe_turn.specs.Turn.{IsSound}
@@ -19,13 +20,6 @@ use Rattle.recipe_hit.specs.declared.hit.Hit.{Hit}
 use Rattle.recipe_book.specs.Checked.{CheckedEntries, IsCheckedBook, IsAt}
 use Rattle.plan_facts.specs.MayTurn.{IsSoundHere}
 use Rattle.build_plan.proofs.Goes.{AreSoundTurns}
-
--- what holds of each holds of the one with a number
-pub of_number : {A : Type 0} (P : A → Type 0) (xs : List A) (k : ℕ) (x : A) → AllByRecursion P xs → IsNumbered xs k x → P x
-of_number P [] k x all n = absurd n
-of_number P (first ∷ xs) zero x all n = absurd n
-of_number P (first ∷ xs) (suc zero) x all n = subst P (sym n) all.0
-of_number P (first ∷ xs) (suc (suc k)) x all n = of_number P xs (suc k) x all.1 n
 
 -- the kind with a number is valid
 valid_at : (settings : Settings) (kinds : List RawKind) (k : ℕ) → AreValid settings kinds → 1 ≤ k → k ≤ length kinds → IsValidKind settings (kind_plane kinds k)

@@ -23,7 +23,7 @@ pub mod Sites
 pub mod Searching
 pub mod Trying
 pub mod Tried
-pub mod Starting
+pub mod FirstIsland
 pub mod Drafting
-pub mod Ending
+pub mod Closings
 pub mod Grounds

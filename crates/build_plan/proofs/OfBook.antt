@@ -12,7 +12,7 @@ use Rattle.elbow_graph.specs.declared.goal.Goal.{Goal}
 use Rattle.elbow_graph.specs.Exits.{exits_of}
 use Rattle.elbow_graph.specs.Goals.{IsRoute}
 use Rattle.elbow_graph.specs.Numbered.{IsNumbered}
-use Rattle.elbow_graph.specs.NumberedLaws.{turn_numbered}
+use Rattle.elbow_graph.specs.NumberedLaws.{turn_numbered, numbered_from_at}
 use Rattle.recipe_turn.specs.Checked.{raws}
 use Rattle.recipe_hit.specs.Checked.{Struck}
 use Rattle.recipe_hit.specs.declared.hit.Hit.{Hit}
@@ -22,7 +22,7 @@ use Rattle.build_plan.specs.declared.event.Event.{Event}
 use Rattle.build_plan.specs.declared.throw.Throw.{Throw}
 use Rattle.build_plan.specs.declared.plan.Plan.{Plan}
 use Rattle.build_plan.specs.Numbers.{item_of}
-use Rattle.build_plan.specs.NumberLaws.{item_numbered, numbered_item}
+use Rattle.build_plan.specs.NumberLaws.{item_numbered}
 use Rattle.build_plan.specs.TurnEvents.{elbow_past, elbow_after, turn_events}
 use Rattle.build_plan.specs.Throws.{hits_of, hit_throws, salvo_throws, place_past, list_throws}
 use Rattle.build_plan.specs.Served.{AreServed, hit_event}
@@ -58,7 +58,7 @@ module _ (book : CheckedEntries) where
       AllByRecursion IsFor (hit_throws number at (suc place) hits)
   hits_of_book number salvo at place [] numbered there = tt
   hits_of_book number salvo at place (hit ∷ hits) numbered there = (
-    (salvo, (numbered, (hit, numbered_item salvo.hits place hit (ap (slice_get salvo.hits) (omega arith) ∙ there 0)))),
+    (salvo, (numbered, (hit, numbered_from_at salvo.hits place hit (ap (slice_get salvo.hits) (omega arith) ∙ there 0)))),
     hits_of_book number salvo at (suc place) hits numbered (λ k. ap (slice_get salvo.hits) (omega arith) ∙ there (suc k)),
   )
 

@@ -22,7 +22,8 @@ use Rattle.book_parts.specs.Limits.{IsPlaced}
 use Rattle.recipe_hit.specs.Sound.{IsWhole}
 use Rattle.recipe_book.specs.Entries.{AreThose}
 use Rattle.build_plan.specs.Fits.{Fits, IsOutside, AreLeftAfter}
-use Rattle.build_plan.proofs.OneTaken.{first_moves, heads_same}
+use Rattle.life_islands.specs.MovedIslandLaws.{first_moves}
+use Rattle.build_plan.proofs.OneTaken.{heads_same}
 
 -- moved to one place and less another
 twice_shifted : (s : Plane) (a b : Cell) → shift (a.x -ℤ b.x) (a.y -ℤ b.y) (shift b.x b.y s) ≡ shift a.x a.y s

@@ -1,17 +1,18 @@
 -- Where a planner stands, at most one salvo is taken, in one way.
-use Rattle.std.specs.Prelude.{◌≡◌, ℕ, ◌≤◌, ℤ, ◌+ℤ◌, ◌-ℤ◌, true, List, [], ◌∷◌, Option}
+use Rattle.std.specs.Prelude.{◌≡◌, ℕ, true, List, ◌∷◌, Option}
 use Rattle.std.specs.declared.option.Option.TheVariants.{Some, None}
-use Rattle.std.proofs.Common.{sym, ap, subst, ◌∙◌, arith, inl, inr}
+use Rattle.std.proofs.Common.{sym, ap, subst, ◌∙◌, arith}
+use Rattle.std.proofs.Math.Nat.{le_antisymm}
 use Rattle.std.proofs.lemmas.Int.{ints}
 use Rattle.life_plane.specs.Plane.{Plane, shift}
-use Rattle.life_cells.specs.Cells.{alive, cell, cell_cmp}
+use Rattle.life_cells.specs.Cells.{alive, cell}
 use Rattle.life_cells.specs.declared.bounds.Bounds.{Bounds}
 use Rattle.life_cells.specs.declared.cell.Cell.{Cell}
 use Rattle.life_cells.specs.Firsts.{IsFirstLive}
 use Rattle.life_cells.specs.FirstLaws.{one_first}
 use Rattle.life_cells.specs.Moved.{moved}
-use Rattle.life_cells.specs.MovedLaws.{cell_cmp-moved}
 use Rattle.life_islands.specs.IslandLaws.{one_list}
+use Rattle.life_islands.specs.MovedIslandLaws.{first_moves}
 use Rattle.life_islands.specs.declared.island.Island.{Island}
 use Rattle.elbow_graph.specs.Numbered.{IsNumbered}
 use Rattle.elbow_graph.specs.NumberedLaws.{numbered_once}
@@ -20,6 +21,7 @@ use Rattle.hand_route.specs.Moves.{Site}
 use Rattle.recipe_turn.specs.Checked.{raws}
 use Rattle.recipe_book.specs.Checked.{CheckedEntries}
 use Rattle.recipe_book.specs.Entries.{AreThose}
+use Rattle.recipe_book.specs.EntryLaws.{those_once}
 use Rattle.build_plan.specs.Fits.{Fits, IsOutside, island_at}
 use Rattle.build_plan.specs.Stand.{Stand}
 use Rattle.build_plan.specs.Served.{AreServed}
@@ -28,38 +30,12 @@ use Rattle.build_plan.specs.Usable.{Taken, product_of, site_of, IsWayIn, way_thr
 use Rattle.build_plan.proofs.Leasts.{LeastAreOne}
 use Rattle.build_plan.proofs.OneServed.{served_once}
 
--- those of a list for which something holds are one list
-pub those_once : {A : Type 0} (P : A → Type 0) (xs a b : List A) → AreThose P xs a → AreThose P xs b → a ≡ b
-those_once P [] a b h k = h ∙ sym k
-those_once {A} P (x ∷ xs) a b (inl h) (inl k) = h.1.1.0 ∙ ap (λ (rest : List A). x ∷ rest) (those_once P xs h.1.0 k.1.0 h.1.1.1 k.1.1.1) ∙ sym k.1.1.0
-those_once P (x ∷ xs) a b (inl h) (inr k) = absurd (k.0 h.0)
-those_once P (x ∷ xs) a b (inr h) (inl k) = absurd (h.0 k.0)
-those_once P (x ∷ xs) a b (inr h) (inr k) = those_once P xs a b h.1 k.1
-
 pub heads_same : {A : Type 0} (x y : A) (xs ys : List A) → x ∷ xs ≡ y ∷ ys → x ≡ y
 heads_same x y xs ys e = cc
 
-pub tails_same : {A : Type 0} (x y : A) (xs ys : List A) → x ∷ xs ≡ y ∷ ys → xs ≡ ys
-tails_same x y xs ys e = cc
-
 -- ---- the place of a product
 
-there_and_back : (z d : ℤ) → (z +ℤ d) -ℤ d ≡ z
-there_and_back z d = omega (arith, ints)
-
-back_and_there : (z d : ℤ) → (z -ℤ d) +ℤ d ≡ z
-back_and_there z d = omega (arith, ints)
-
--- the first live cell moves with its plane
-pub first_moves : (dx dy : ℤ) (s : Plane) (c : Cell) → IsFirstLive s c → IsFirstLive (shift dx dy s) (moved dx dy c)
-first_moves dx dy s c h = record {
-  is = (λ i. s (there_and_back c.x dx i) (there_and_back c.y dy i)) ∙ h.is;
-  none_before = λ x y lives less.
-      h.none_before (x -ℤ dx) (y -ℤ dy) lives
-      (sym (cell_cmp-moved dx dy (cell (x -ℤ dx) (y -ℤ dy)) c) ∙ (λ i. cell_cmp (cell (back_and_there x dx i) (back_and_there y dy i)) (moved dx dy c)) ∙ less);
-}
-
--- so a plane comes to one place by one move
+-- a plane comes to one place by one move
 pub one_move : (s : Plane) (c : Cell) → IsFirstLive s c → (p q : Cell) → shift p.x p.y s ≡ shift q.x q.y s → p ≡ q
 one_move s c h p q same =
     let cells : moved p.x p.y c ≡ moved q.x q.y c =
@@ -99,9 +75,6 @@ module _ (one : LeastAreOne) (book : CheckedEntries) (room : Bounds) where
       (subst (λ (p : Plane). AreThose (IsOutside p) stand.left b.left) product k.left_after) in
       λ i. record { number = number i; salvo = salvo i; place = place i; way = way i; events = served.0 i; elbow = served.1 i; left = left i }
 
-  level : (a b : ℕ) → a ≤ b → b ≤ a → a ≡ b
-  level a b h k = omega arith
-
   -- one is taken
   pub taken_once : (stand : Stand) (a b : Taken) → IsTaken book room stand a → IsTaken book room stand b → a ≡ b
-  taken_once stand a b h k = usable_once stand a b h.usable k.usable (level a.number b.number (h.least b k.usable) (k.least a h.usable))
+  taken_once stand a b h k = usable_once stand a b h.usable k.usable (le_antisymm (h.least b k.usable) (k.least a h.usable))

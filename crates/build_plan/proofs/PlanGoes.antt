@@ -15,7 +15,7 @@ use Rattle.recipe_hit.specs.Checked.{Struck}
 use Rattle.recipe_turn.specs.Checked.{raws}
 use Rattle.recipe_book.specs.Checked.{CheckedEntries, IsCheckedBook}
 use Rattle.hand_route.specs.Clearings.{IsSalvoClear}
-use Rattle.hand_route.specs.Moves.{Site, moved_by, leaves_hand, OnlyMoves}
+use Rattle.hand_route.specs.Moves.{Site, leaves_hand, OnlyMoves}
 use Rattle.hand_route.specs.Lists as hand
 use Rattle.plan_facts.specs.State.{State, Hand, first_hand, first_state}
 use Rattle.plan_facts.specs.State.Hand.{Gone, Rests}
@@ -23,7 +23,8 @@ use Rattle.build_plan.specs.declared.event.Event.{Event}
 use Rattle.build_plan.specs.Numbers.{item_of}
 use Rattle.build_plan.specs.NumberLaws.{item_numbered}
 use Rattle.build_plan.specs.TurnEvents.{turn_events}
-use Rattle.build_plan.specs.Throws.{hits_of, salvo_throws, hit_throws, carried, place_past, list_throws}
+use Rattle.build_plan.specs.Throws.{hits_of, salvo_throws, hit_throws, place_past, list_throws}
+use Rattle.build_plan.specs.ThrowLaws.{past_there}
 use Rattle.build_plan.specs.Served.{AreServed}
 use Rattle.build_plan.specs.Stand.{Stand}
 use Rattle.build_plan.specs.Usable.{Taken, product_of, site_of, IsWayIn, way_throws, SaysFarewell, MayLeave, IsUsable, stand_after}
@@ -32,11 +33,6 @@ use Rattle.build_plan.proofs.ServedParts.{served_both}
 use Rattle.build_plan.proofs.Goes.{Goes, goes_nowhere, goes_on, rests_at, closing_goes}
 use Rattle.build_plan.proofs.SalvoGoes.{salvo_goes}
 use Rattle.build_plan.proofs.FromBook.{sound_turns, sound_salvos}
-
--- where a hand goes that a salvo leaves there
-pub carried_there : (from to : Cell) (by : Option Cell) → moved_by from by ≡ Some to → carried from by ≡ to
-carried_there from to None h = absurd (cc)
-carried_there from to (Some by) h = cc
 
 module _ (book : CheckedEntries) (checked : IsCheckedBook book) where
   -- from an elbow and a hand at rest to others
@@ -60,11 +56,6 @@ module _ (book : CheckedEntries) (checked : IsCheckedBook book) where
       (ap (λ (s : Plane). union site.built (shift place.x place.y s)) m.builds_nothing ∙ union_none site.built)
       (one_goes site.built number salvo place from to events (subst (λ (l : List Struck). IsNumbered l number salvo) salvos_are m.numbered) (subst (λ s. IsSalvoClear s site.built salvo place) settings_are m.clear) served)
 
-  -- where a numbered salvo leaves the hand
-  past_there : (number : ℕ) (salvo : Struck) (from to : Cell) → IsNumbered book.salvos number salvo → leaves_hand salvo from ≡ Some to → place_past (item_of book.salvos number) from ≡ to
-  past_there number salvo from to numbered leaves =
-      ap (λ (o : Option Struck). place_past o from) (item_numbered book.salvos number salvo numbered) ∙ carried_there from to salvo.raw.hand leaves
-
   -- the way of a hand
   way_goes : (room : Bounds) (built : Plane) (place to : Cell) (list : List ℕ) (from at : Elbow) (events : List Event) → hand.IsHandList (site_of book room built) place list to →
       AreServed (raws book.turns) book.settings.span from (list_throws book.salvos place list) events at → Leads from (Rests place) built events at (Rests to) built
@@ -74,7 +65,7 @@ module _ (book : CheckedEntries) (checked : IsCheckedBook book) where
       (goes_nowhere book (rests_at (Some from) None (Rests place) built)))
   way_goes room built place to (k ∷ ks) from at events (between, (carries, more)) served =
       let both = served_both (raws book.turns) book.settings.span (salvo_throws book.salvos k place) (list_throws book.salvos (place_past (item_of book.salvos k) place) ks) from at events served in
-      let past = past_there k carries.salvo place between carries.moves.numbered carries.leaves in
+      let past = past_there book.salvos k carries.salvo place between carries.moves.numbered carries.leaves in
       subst (λ (l : List Event). Leads from (Rests place) built l at (Rests to) built) (sym both.events_are)
       (goes_on book (rests_at (Some from) None (Rests place) built) (rests_at (Some both.middle) None (Rests between) built) (rests_at (Some at) None (Rests to) built) both.before both.after
       (subst (λ (p : Option Cell). Leads from (Rests place) built both.before both.middle (first_hand p) built) carries.leaves
@@ -98,7 +89,7 @@ module _ (book : CheckedEntries) (checked : IsCheckedBook book) where
       (subst (λ (e : Elbow). Leads both.middle Gone built [] e Gone built) (sym rest.1) (goes_nowhere book (rests_at (Some both.middle) None Gone built)))))
   away_goes room built place (k ∷ ks) from at events (inr (between, (carries, more))) served =
       let both = served_both (raws book.turns) book.settings.span (salvo_throws book.salvos k place) (list_throws book.salvos (place_past (item_of book.salvos k) place) ks) from at events served in
-      let past = past_there k carries.salvo place between carries.moves.numbered carries.leaves in
+      let past = past_there book.salvos k carries.salvo place between carries.moves.numbered carries.leaves in
       subst (λ (l : List Event). Leads from (Rests place) built l at Gone built) (sym both.events_are)
       (goes_on book (rests_at (Some from) None (Rests place) built) (rests_at (Some both.middle) None (Rests between) built) (rests_at (Some at) None Gone built) both.before both.after
       (subst (λ (p : Option Cell). Leads from (Rests place) built both.before both.middle (first_hand p) built) carries.leaves

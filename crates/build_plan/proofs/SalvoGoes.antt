@@ -3,6 +3,7 @@ use Rattle.std.specs.Prelude.{◌≡◌, Bool, true, false, cond, nat_eq, ℕ, z
 use Rattle.std.specs.List.{AllByRecursion, slice_get}
 use Rattle.std.specs.declared.option.Option.TheVariants.{Some, None}
 use Rattle.std.proofs.Common.{refl, sym, ap, subst, ◌∙◌, arith, inl, inr}
+use Rattle.std.proofs.Math.Nat.{suc_inj}
 use Rattle.std.proofs.lemmas.Bool.Decides.{eqb_tells}
 use Rattle.life_plane.specs.Plane.{Plane, union, shift}
 use Rattle.life_plane.specs.ListLaws.{same_item}
@@ -24,6 +25,7 @@ use Rattle.plan_facts.specs.State.Hand.{Rests, Under}
 use Rattle.plan_facts.specs.MayHit.{MayHit, IsNextHit, hand_left, after_hit}
 use Rattle.recipe_turn.specs.Checked.{raws}
 use Rattle.recipe_book.specs.Checked.{CheckedEntries}
+use Rattle.build_plan.specs.NumberLaws.{item_numbered}
 use Rattle.build_plan.specs.declared.event.Event.{Event}
 use Rattle.build_plan.specs.TurnEvents.{turn_events, elbow_after}
 use Rattle.build_plan.specs.Throws.{hit_throws}
@@ -54,15 +56,6 @@ is_last_one a b same = elim (eqb_tells a b) [ inl is ↦ is.0 | inr other ↦ ab
 is_not_last : (a b : ℕ) → (a ≡ b → ⊥) → nat_eq a b ≡ false
 is_not_last a b differs = elim (eqb_tells a b) [ inl is ↦ absurd (differs is.1) | inr other ↦ other.0 ]
 
--- the item with a number stands there
-item_at : {X : Type 0} (xs : List X) (place : ℕ) (x : X) → IsNumbered xs (suc place) x → slice_get xs place ≡ Some x
-item_at [] place x h = absurd h
-item_at (y ∷ xs) zero x h = ap Some (sym h)
-item_at (y ∷ xs) (suc place) x h = item_at xs place x h
-
-less_one : (a b : ℕ) → suc a ≡ suc b → a ≡ b
-less_one a b e = omega arith
-
 module _ (book : CheckedEntries) (sound : AreSoundTurns book) (built : Plane) (number : ℕ) (salvo : Struck) (place : Cell) (numbered : IsNumbered book.salvos number salvo)
     (salvo_sound : IsSound (alive book.hand) salvo.raw salvo.hits) where
   abbrev product : Plane
@@ -90,9 +83,9 @@ module _ (book : CheckedEntries) (sound : AreSoundTurns book) (built : Plane) (n
   hit_is : (n : ℕ) (hit : Hit) (h : SalvoHit) → slice_get salvo.hits n ≡ Some hit → IsHitOf book number (suc n) place h → h ≡ hit_at salvo place n hit
   hit_is n hit h there is =
       let salvos : is.salvo ≡ salvo = numbered_once book.salvos number is.salvo salvo is.numbered numbered in
-      let hits : h.hit ≡ hit = same_item (item_at salvo.hits n h.hit (subst (λ (s : Struck). IsNumbered s.hits (suc n) h.hit) salvos is.hit_is)) there in
+      let hits : h.hit ≡ hit = same_item (item_numbered salvo.hits (suc n) h.hit (subst (λ (s : Struck). IsNumbered s.hits (suc n) h.hit) salvos is.hit_is)) there in
       let own : h.salvo ≡ salvo_of salvo = is.salvo_is ∙ ap salvo_of salvos in
-      let count = less_one h.number n is.number_is in
+      let count = suc_inj is.number_is in
       λ i. record { salvo = own i; number = count i; place = is.place_is i; hit = hits i }
 
   -- the turns for a hit, and the hit, and what comes after it

@@ -1,11 +1,14 @@
 -- Salvos tried one after the other, and what is found.
 use Rattle.std.specs.Prelude.{◌≡◌, ◌⊎◌, ℕ, zero, suc, false, true, ◌+◌, ◌<◌, ◌≤◌, List, [], ◌∷◌, ◌++◌, length, take, get_or, Option, IfSome, IfNone}
-use Rattle.std.specs.List.{AllByRecursion, slice_get}
+use Rattle.std.specs.List.{slice_get}
 use Rattle.std.specs.declared.option.Option.TheVariants.{Some, None}
 use Rattle.std.specs.Option.{is_some}
 use Rattle.std.proofs.Common.{sym, ap, subst, ◌∙◌, arith, inl, inr}
 use Rattle.std.proofs.Math.Seq.{take-append_seam}
+use Rattle.std.proofs.lemmas.Bool.{cases_lt}
 use Rattle.std.proofs.lemmas.Grind.{get_or_default_zero}
+use Rattle.life_plane.specs.ListLaws.{each_at}
+use Rattle.life_plane.specs.NumberLaws.{lt_or_same}
 use Rattle.life_cells.specs.Cells.{alive}
 use Rattle.life_islands.specs.declared.island.Island.{Island}
 use Rattle.elbow_graph.specs.declared.elbow.Elbow.{Elbow}
@@ -33,33 +36,10 @@ pub record AreTried (first : Search) (start : Walk) (numbers : List ℕ) (place 
 
 -- ---- numbers in a list
 
-before_or : (k n : ℕ) → k < n + 1 → (k < n) ⊎ (k ≡ n)
-before_or k zero lt = inr (omega arith)
-before_or zero (suc n) lt = inl (omega arith)
-before_or (suc k) (suc n) lt = up (before_or k n (omega arith))
-  where
-    up : (k < n) ⊎ (k ≡ n) → (suc k < suc n) ⊎ (suc k ≡ suc n)
-    up (inl h) = inl (omega arith)
-    up (inr h) = inr (omega arith)
-
-before_not : (k n : ℕ) → (k < n) ⊎ (n ≤ k)
-before_not k zero = inr (omega arith)
-before_not zero (suc n) = inl (omega arith)
-before_not (suc k) (suc n) = up (before_not k n)
-  where
-    up : (k < n) ⊎ (n ≤ k) → (suc k < suc n) ⊎ (suc n ≤ suc k)
-    up (inl h) = inl (omega arith)
-    up (inr h) = inr (omega arith)
-
-all_get : {X : Type 0} (P : X → Type 0) (xs : List X) (d : X) (k : ℕ) → AllByRecursion P xs → k < length xs → P (get_or xs k d)
-all_get P [] d k h lt = absurd (omega arith)
-all_get P (x ∷ xs) d zero h lt = h.0
-all_get P (x ∷ xs) d (suc k) h lt = all_get P xs d k h.1 (omega arith)
-
 ascends : (xs : List ℕ) (i j : ℕ) → AreAscending xs → i ≤ j → j < length xs → get_or xs i 0 ≤ get_or xs j 0
 ascends [] i j h le lt = absurd (omega arith)
 ascends (x ∷ xs) zero zero h le lt = omega arith
-ascends (x ∷ xs) zero (suc j) h le lt = let l = all_get (λ later. x < later) xs 0 j h.0 (omega arith) in omega arith
+ascends (x ∷ xs) zero (suc j) h le lt = let l = each_at (λ later. x < later) xs h.0 j 0 (omega arith) in omega arith
 ascends (x ∷ xs) (suc i) zero h le lt = absurd (omega arith)
 ascends (x ∷ xs) (suc i) (suc j) h le lt = ascends xs i j h.1 (omega arith) (omega arith)
 
@@ -92,7 +72,7 @@ module _ (first : Search) (s : IsSearch first) (checked : IsCheckedBook first.pl
   pub number_at : (place : ℕ) (now : Search) → SameSearch first now → place < length numbers → IsNumberOf now.planner.now.book.now.salvos (alive now.shape) (get_or numbers place 0)
   number_at place now same lt =
       subst (λ (x : Search). IsNumberOf x.planner.now.book.now.salvos (alive x.shape) (get_or numbers place 0)) (sym same)
-      (all_get (IsNumberOf first.planner.now.book.now.salvos (alive first.shape)) numbers 0 place are.each lt)
+      (each_at (IsNumberOf first.planner.now.book.now.salvos (alive first.shape)) numbers are.each place 0 lt)
 
   -- what is usable has a number at some place
   pub record StandsAt (number : ℕ) : Type 0 where
@@ -137,7 +117,7 @@ module _ (first : Search) (s : IsSearch first) (checked : IsCheckedBook first.pl
       }
     where
       least : (taken : Taken) → IsUsable first.planner.now.book.now first.planner.now.placing.room (stand_of first start.elbow) taken → get_or numbers place 0 ≤ taken.number
-      least taken u = by (before_not (stands_at taken u).place place)
+      least taken u = by (cases_lt (stands_at taken u).place place)
         where
           at : StandsAt taken.number
           at = stands_at taken u
@@ -168,7 +148,7 @@ module _ (first : Search) (s : IsSearch first) (checked : IsCheckedBook first.pl
       by k (inr is) = subst (λ (i : ℕ). NoneUsable first.planner.now.book.now first.planner.now.placing.room (stand_of first start.elbow) (get_or numbers i 0)) (sym is) here
 
       each : (k : ℕ) → k < place + 1 → NoneUsable first.planner.now.book.now first.planner.now.placing.room (stand_of first start.elbow) (get_or numbers k 0)
-      each k lt = by k (before_or k place lt)
+      each k lt = by k (lt_or_same k place lt)
 
 -- what is found isn't none
 pub not_both : (P : Type 0) (found : Option Trial) → is_some found ≡ true → IfNone found P

@@ -33,7 +33,7 @@ use Rattle.build_plan.specs.declared.throw.Throw.{Throw}
 use Rattle.build_plan.specs.declared.trial.Trial.{Trial}
 use Rattle.build_plan.specs.declared.walk.Walk.{Walk}
 use Rattle.build_plan.specs.Fits.{Fits, IsOutside, AreLeftAfter}
-use Rattle.build_plan.specs.NumberLaws.{numbered_item}
+use Rattle.elbow_graph.specs.NumberedLaws.{numbered_from_at}
 use Rattle.build_plan.specs.ServedWalk.{AddsEvents, ServedBy}
 use Rattle.build_plan.specs.Stand.{Stand}
 use Rattle.build_plan.specs.Usable.{Taken, product_of, hand_after, IsWayIn, way_throws, SaysFarewell, CanSayFarewell, MayLeave, IsUsable}
@@ -41,7 +41,8 @@ use Rattle.build_plan.specs.Trials.{MayBeLeft, MayBegin, first_of, built_with, s
 use Rattle.build_plan.proofs.FromBook.{sound_salvos}
 use Rattle.build_plan.proofs.Leasts.{ServingIsOne}
 use Rattle.build_plan.proofs.OneServed.{served_once}
-use Rattle.build_plan.proofs.OneTaken.{those_once, fits_once}
+use Rattle.recipe_book.specs.EntryLaws.{those_once}
+use Rattle.build_plan.proofs.OneTaken.{fits_once}
 use Rattle.build_plan.proofs.OnIsland.{fits_there, rest_left}
 use Rattle.build_plan.proofs.Searching.{OneWay, one_way}
 
@@ -55,7 +56,7 @@ one_alone wanted others none = ap (λ (l : List Island). length (wanted ∷ l)) 
 
 -- a salvo that builds a shape has its number
 pub number_of : (salvos : List Struck) (shape : Plane) (number : ℕ) (n : IsNumberOf salvos shape number) → IsNumbered salvos number n.salvo
-number_of salvos shape number n = subst (λ (k : ℕ). IsNumbered salvos k n.salvo) (sym (let e = n.number_is in omega arith)) (numbered_item salvos n.place n.salvo n.there)
+number_of salvos shape number n = subst (λ (k : ℕ). IsNumbered salvos k n.salvo) (sym (let e = n.number_is in omega arith)) (numbered_from_at salvos n.place n.salvo n.there)
 
 pub builds_shape : (salvos : List Struck) (shape : Plane) (number : ℕ) (salvo : Struck) → IsNumberOf salvos shape number → IsNumbered salvos number salvo → Builds salvo shape
 builds_shape salvos shape number salvo n numbered = subst (λ (x : Struck). Builds x shape) (numbered_once salvos number n.salvo salvo (number_of salvos shape number n) numbered) n.builds

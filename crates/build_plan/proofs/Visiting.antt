@@ -1,6 +1,5 @@
 -- The gliders of salvos, added one salvo after the other.
-use Rattle.std.specs.Prelude.{◌≡◌, ℕ, suc, ◌<◌, ◌≤◌, ◌^◌, List, [], ◌∷◌, ◌++◌, length, drop, get_or, Option}
-use Rattle.std.specs.declared.option.Option.TheVariants.{Some}
+use Rattle.std.specs.Prelude.{◌≡◌, ℕ, suc, ◌<◌, ◌≤◌, ◌^◌, List, [], ◌∷◌, ◌++◌, length, drop, get_or}
 use Rattle.std.proofs.Common.{sym, ap, subst, ◌∙◌, arith, append_assoc, append-nil, inl, inr}
 use Rattle.std.proofs.Math.Seq.{drop-cons}
 use Rattle.std.proofs.lemmas.Int.{ints}
@@ -8,17 +7,15 @@ use Rattle.std.proofs.lemmas.List.{drop_all}
 use Rattle.life_cells.specs.declared.cell.Cell.{Cell}
 use Rattle.life_cells.specs.declared.bounds.Bounds.{Bounds}
 use Rattle.life_cells.specs.Boxes.{InBox, IsBoxInRange, IsCellInRange}
-use Rattle.hand_route.specs.Moves.{Site, leaves_hand}
+use Rattle.hand_route.specs.Moves.{Site}
 use Rattle.hand_route.specs.Rooms.{IsRoom}
 use Rattle.hand_route.specs.Lists.{IsHandList, IsFarewell}
 use Rattle.recipe_hit.specs.Checked.{Struck}
-use Rattle.elbow_graph.specs.Numbered.{IsNumbered}
 use Rattle.build_plan.specs.declared.throw.Throw.{Throw}
 use Rattle.build_plan.specs.Numbers.{item_of}
-use Rattle.build_plan.specs.NumberLaws.{item_numbered}
 use Rattle.build_plan.specs.Throws.{salvo_throws, place_past, list_throws}
+use Rattle.build_plan.specs.ThrowLaws.{past_there}
 use Rattle.build_plan.specs.Visited.{IsVisited, AreVisited}
-use Rattle.build_plan.proofs.PlanGoes.{carried_there}
 
 -- the sides of a room
 pub room_in_range : (room : Bounds) → IsRoom room → IsBoxInRange (2 ^ 50) room
@@ -41,16 +38,12 @@ pub in_range : (room : Bounds) (at : Cell) → IsBoxInRange (2 ^ 50) room → In
 in_range room at r i = record { x_low = omega (arith, ints); x_high = omega (arith, ints); y_low = omega (arith, ints); y_high = omega (arith, ints) }
 
 module _ (site : Site) (range : IsBoxInRange (2 ^ 50) site.room) where
-  past_there : (number : ℕ) (salvo : Struck) (from to : Cell) → IsNumbered site.salvos number salvo → leaves_hand salvo from ≡ Some to → place_past (item_of site.salvos number) from ≡ to
-  past_there number salvo from to numbered leaves =
-      ap (λ (o : Option Struck). place_past o from) (item_numbered site.salvos number salvo numbered) ∙ carried_there from to salvo.raw.hand leaves
-
   -- the salvos of a hand list, and of a farewell
   pub list_visited : (from to : Cell) (list : List ℕ) → InBox site.room from.x from.y → IsHandList site from list to → AreVisited site.salvos from list
   list_visited from to [] here leads = tt
   list_visited from to (k ∷ ks) here (between, (carries, more)) = (
     record { salvo = carries.salvo; numbered = carries.moves.numbered; range = in_range site.room from range here },
-    subst (λ (p : Cell). AreVisited site.salvos p ks) (sym (past_there k carries.salvo from between carries.moves.numbered carries.leaves)) (list_visited between to ks carries.in_room more),
+    subst (λ (p : Cell). AreVisited site.salvos p ks) (sym (past_there site.salvos k carries.salvo from between carries.moves.numbered carries.leaves)) (list_visited between to ks carries.in_room more),
   )
 
   pub farewell_visited : (from : Cell) (list : List ℕ) → InBox site.room from.x from.y → IsFarewell site from list → AreVisited site.salvos from list
@@ -61,7 +54,7 @@ module _ (site : Site) (range : IsBoxInRange (2 ^ 50) site.room) where
   )
   farewell_visited from (k ∷ ks) here (inr (between, (carries, more))) = (
     record { salvo = carries.salvo; numbered = carries.moves.numbered; range = in_range site.room from range here },
-    subst (λ (p : Cell). AreVisited site.salvos p ks) (sym (past_there k carries.salvo from between carries.moves.numbered carries.leaves)) (farewell_visited between ks carries.in_room more),
+    subst (λ (p : Cell). AreVisited site.salvos p ks) (sym (past_there site.salvos k carries.salvo from between carries.moves.numbered carries.leaves)) (farewell_visited between ks carries.in_room more),
   )
 
 -- the gliders of the salvos before a place are added: with those from there on they are all

@@ -3,6 +3,7 @@ pub mod Numbers
 pub mod NumberLaws
 pub mod TurnEvents
 pub mod Throws
+pub mod ThrowLaws
 pub mod Served
 pub mod Placing
 pub mod Fits

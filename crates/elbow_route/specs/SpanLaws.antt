@@ -1,5 +1,5 @@
 -- The elbow that a list leaves which serves a lane is within the span.
-use Rattle.std.specs.Prelude.{◌≡◌, ℕ, ℤ, pos, ◌+ℤ◌, ◌*ℤ◌, List, [], ◌∷◌}
+use Rattle.std.specs.Prelude.{◌≡◌, ℕ, ℤ, ◌+ℤ◌, List, [], ◌∷◌}
 use Rattle.std.proofs.Common.{refl, sym, ap, subst, inl, inr}
 use Rattle.book_parts.specs.declared.turn.RawTurn.{RawTurn}
 use Rattle.book_parts.specs.declared.turn.TurnEnd.{TurnEnd}
@@ -7,9 +7,9 @@ use Rattle.book_parts.specs.declared.turn.TurnEnd.TheVariants.{Close, Move, Emit
 use Rattle.elbow_graph.specs.declared.elbow.Elbow.{Elbow}
 use Rattle.elbow_graph.specs.declared.exit.Exit.{Exit}
 use Rattle.elbow_graph.specs.declared.goal.Goal.TheVariants.{Anywhere, Lane}
-use Rattle.elbow_graph.specs.Elbows.{elbow, leaves, IsInSpan}
+use Rattle.elbow_graph.specs.Elbows.{elbow, leaves}
 use Rattle.elbow_graph.specs.Exits.{exits_of}
-use Rattle.elbow_graph.specs.Goals.{MayPass, IsEnd, Passes}
+use Rattle.elbow_graph.specs.Goals.{MayPass, IsEnd}
 use Rattle.elbow_graph.specs.Numbered.{IsNumbered}
 use Rattle.elbow_route.specs.Lists.{ServesBy, LeavesInSpan}
 use Rattle.elbow_route.specs.ShortnessLaws.{passes_anywhere}

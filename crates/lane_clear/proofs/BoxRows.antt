@@ -1,8 +1,8 @@
 -- A box that is looked at row by row, in a list of cells in order.
-use Rattle.std.proofs.Common.{◌≡◌, ◌⊎◌, ◌↔◌, IsTrue, ◌&&◌, ℕ, ◌+◌, ◌<◌, ◌≤◌, true, false, ℤ, pos, ◌+ℤ◌, ◌-ℤ◌, ◌≤ℤ◌, ◌<ℤ◌, List, length, get_or, Err, sym, ap, subst, ◌∙◌, arith, inl, inr}
+use Rattle.std.proofs.Common.{◌≡◌, ◌⊎◌, ◌↔◌, IsTrue, ◌&&◌, ℕ, ◌<◌, ◌≤◌, true, false, ℤ, pos, ◌+ℤ◌, ◌-ℤ◌, ◌≤ℤ◌, ◌<ℤ◌, List, length, get_or, Err, sym, ap, subst, ◌∙◌, arith, inl, inr}
 use Rattle.std.specs.Prelude.{unsigned_abs, int_le}
 use Rattle.std.specs.List.{slice_get}
-use Rattle.std.specs.List.Sorted.{IsSorted, IsBinarySearchResult}
+use Rattle.std.specs.List.Sorted.{IsBinarySearchResult}
 use Rattle.std.specs.declared.option.Option.{Option}
 use Rattle.std.specs.declared.option.Option.TheVariants.{Some, None}
 use Rattle.std.specs.Option.{IfSome, IfNone}
@@ -24,14 +24,12 @@ use Rattle.life_cells.specs.Cells.{cell, cell_cmp, IsRising}
 use Rattle.life_cells.specs.Close.{IsFirstFrom}
 use Rattle.life_cells.specs.Laws.{listed_at_place, place_of_listed}
 use Rattle.life_cells.specs.Listed.{listed}
+use Rattle.life_cells.specs.SortedLaws.{sorted_from_rising}
 use Rattle.life_cells.specs.OrderLaws.{cells_total, cells_antisymmetric, comes_before, before_by_row, before_in_row, turned}
 use Rattle.lane_clear.specs.Bare.{IsBare, IsBefore, IsFrom, IsNext, IsRowAfter}
 use Rattle.lane_clear.specs.BaseLaws.{whole}
 
 -- ---- the place of a cell
-
-sorted_from_rising : (cs : List Cell) → IsRising cs → IsSorted cell_cmp cs
-sorted_from_rising cs h k d _ lt = ap is_lt (turned (get_or cs k d) (get_or cs (k + 1) d) Less (Less-from_sorted cell_cmp cs k (k + 1) d h (omega arith) lt))
 
 pub found_place : (cs : List Cell) (c : Cell) (k : ℕ) → IsRising cs → k < length cs → cell_cmp (get_or cs k c) c ≡ Equal → IsFirstFrom cs c k
 found_place cs c k rises lt equal = record {

@@ -89,7 +89,7 @@ moved_before dx dy c d less = elim (comes_before c d less) [
   | inr level ↦ let row = level.0 in let left = level.1 in before_in_row (moved dx dy c) (moved dx dy d) (omega (arith, ints)) (omega (arith, ints))
 ]
 
-first_moves : (dx dy : ℤ) (t : Plane) (c : Cell) → IsFirstLive t c → IsFirstLive (shift dx dy t) (moved dx dy c)
+pub first_moves : (dx dy : ℤ) (t : Plane) (c : Cell) → IsFirstLive t c → IsFirstLive (shift dx dy t) (moved dx dy c)
 first_moves dx dy t c h = record { is = moved_lives dx dy t c h.is; none_before = λ x y lives less. h.none_before (x -ℤ dx) (y -ℤ dy) lives (origin_before dx dy (cell x y) c less) }
 
 greatest_moves : (dx dy : ℤ) (t : Plane) (u : ℤ) → IsGreatestU u t → IsGreatestU ((u +ℤ dx) -ℤ dy) (shift dx dy t)

@@ -1,9 +1,8 @@
 -- What is laid out is the pattern of the plan, and its n-th generation is the target.
-use Rattle.std.proofs.Common.{◌≡◌, Bool, true, false, ℕ, ℤ, pos, neg_ℤ, ◌+ℤ◌, ◌-ℤ◌, List, [], ◌∷◌, Option, refl, sym, ap, subst, ◌∙◌, arith, if◌then◌else◌}
-use Rattle.std.specs.declared.option.Option.TheVariants.{Some, None}
+use Rattle.std.proofs.Common.{◌≡◌, ℕ, neg_ℤ, ◌-ℤ◌, List, Option, sym, ap, ◌∙◌, arith}
 use Rattle.std.proofs.lemmas.Int.{ints}
-use Rattle.life_plane.specs.Plane.{Plane, nothing, union, shift, run, same_plane, IsStill}
-use Rattle.life_cells.specs.Cells.{Cells, alive}
+use Rattle.life_plane.specs.Plane.{Plane, union, shift, run, same_plane, IsStill}
+use Rattle.life_cells.specs.Cells.{alive}
 use Rattle.life_cells.specs.declared.cell.Cell.{Cell}
 use Rattle.book_parts.specs.Kinds.{kind_plane}
 use Rattle.book_parts.specs.Limits.{AreProper}
@@ -12,10 +11,7 @@ use Rattle.book_parts.specs.declared.kind.RawKind.{RawKind}
 use Rattle.recipe_book.specs.Checked.{CheckedEntries, IsCheckedBook}
 use Rattle.event_times.specs.Events as timed
 use Rattle.plan_facts.specs.Happenings.{Happening, events_of}
-use Rattle.plan_facts.specs.Happenings.Happening.{Turns, Hits}
-use Rattle.plan_facts.specs.State.{State, hand_plane, first_hand, first_state}
-use Rattle.plan_facts.specs.State.Hand.{Gone, Rests}
-use Rattle.plan_facts.specs.MayTurn.{after_turn}
+use Rattle.plan_facts.specs.State.{hand_plane, first_hand}
 use Rattle.plan_facts.specs.Facts.{IsConstruction}
 use Rattle.plan_facts.specs.FirstHandLaws.{hand_at_first}
 use Rattle.build_plan.specs.declared.plan.Plan.{Plan}

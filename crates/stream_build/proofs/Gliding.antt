@@ -1,18 +1,16 @@
 -- The gliders of a turn, appended one after the other.
-use Rattle.std.proofs.Common.{◌≡◌, ℕ, ◌+◌, ◌<◌, ◌≤◌, ◌||◌, ℤ, ◌-ℤ◌, List, [], ◌∷◌, ◌++◌, length, get_or, take, sym, ap, ◌∙◌, arith, w64, to_z, of_z}
+use Rattle.std.proofs.Common.{◌≡◌, ℕ, ◌+◌, ◌<◌, ◌≤◌, ℤ, List, ◌++◌, length, get_or, take, sym, ap, ◌∙◌, arith, w64, to_z, of_z}
 use Rattle.std.proofs.lemmas.Int.{ints}
 use Rattle.std.proofs.lemmas.List.{take_more, take_all}
-use Rattle.std.proofs.Math.Bool.{or_assoc, or-false}
 use Rattle.life_plane.specs.PlaneLaws.{union_assoc}
 use Rattle.life_plane.specs.Plane.{Plane, union, same_plane}
-use Rattle.life_plane.specs.Tracks.{stream_glider}
 use Rattle.life_cells.specs.declared.cell.Cell.{Cell}
 use Rattle.life_cells.specs.Listed.{listed}
 use Rattle.life_cells.specs.Laws.{listed-append}
 use Rattle.book_parts.specs.declared.settings.Settings.{Settings}
-use Rattle.book_parts.specs.Proper.{IsDelay}
 use Rattle.recipe_turn.specs.Turn.{gliders}
-use Rattle.recipe_turn.specs.GliderLaws.{own, gliders_push}
+use Rattle.recipe_turn.specs.Gliders.{own}
+use Rattle.recipe_turn.specs.GliderLaws.{gliders_push}
 use Rattle.stream_build.specs.Laying.{IsTime}
 
 -- a time that is read is what it was

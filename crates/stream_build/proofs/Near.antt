@@ -1,8 +1,8 @@
 -- The cells of a plan's pattern lie near enough to be moved.
-use Rattle.std.specs.Prelude.{◌≡◌, ◌⊎◌, true, ℕ, zero, suc, ◌≤◌, ◌^◌, ℤ, pos, neg_ℤ, ◌+ℤ◌, ◌-ℤ◌, ◌*ℤ◌, ◌≤ℤ◌, List, [], ◌∷◌, length, Option}
+use Rattle.std.specs.Prelude.{◌≡◌, ◌⊎◌, true, ℕ, ◌≤◌, ◌^◌, ℤ, pos, neg_ℤ, ◌-ℤ◌, ◌*ℤ◌, ◌≤ℤ◌, List, [], ◌∷◌, length, Option}
 use Rattle.std.specs.List.{AllByRecursion}
 use Rattle.std.specs.declared.option.Option.TheVariants.{Some, None}
-use Rattle.std.proofs.Common.{arith, inl, inr, sym, subst}
+use Rattle.std.proofs.Common.{arith, inl, inr, subst}
 use Rattle.std.proofs.lemmas.Int.{ints}
 use Rattle.std.proofs.lemmas.Bool.{or_cases}
 use Rattle.life_plane.specs.Plane.{Plane, union, shift, nothing}
@@ -12,19 +12,17 @@ use Rattle.life_cells.specs.Cells.{alive}
 use Rattle.life_cells.specs.Boxes.{IsInRange, IsCellInRange, CanMove}
 use Rattle.life_cells.specs.declared.cell.Cell.{Cell}
 use Rattle.book_parts.specs.KindLaws.{kind_placed}
-use Rattle.book_parts.specs.Kinds.{kind_plane}
 use Rattle.book_parts.specs.Limits.{IsFrom, IsApproach, IsPlaced}
 use Rattle.book_parts.specs.Proper.{IsDelay, IsProperTurn}
 use Rattle.book_parts.specs.declared.settings.Settings.{Settings}
-use Rattle.book_parts.specs.declared.turn.RawTurn.{RawTurn}
-use Rattle.elbow_graph.specs.Numbered.{IsNumbered}
+use Rattle.elbow_graph.specs.NumberedLaws.{of_number}
 use Rattle.recipe_turn.specs.Turn.{gliders}
 use Rattle.recipe_turn.specs.Checked.{raws}
 use Rattle.recipe_book.specs.Checked.{CheckedEntries, IsCheckedBook}
 use Rattle.event_times.specs.Early.{latest_end, IsNearShift}
 use Rattle.event_times.specs.Events.{stream_of}
 use Rattle.event_times.specs.TimedTurns.{Timed}
-use Rattle.plan_facts.specs.Happenings.{SalvoHit, Happening, events_of}
+use Rattle.plan_facts.specs.Happenings.{Happening, events_of}
 use Rattle.plan_facts.specs.Happenings.Happening.{Turns, Hits}
 use Rattle.plan_facts.specs.State.{hand_plane, first_hand}
 use Rattle.build_plan.specs.declared.event.Event.{Event}
@@ -45,13 +43,6 @@ pub record IsNear (x y : ℤ) : Type 0 where
 -- each cell lies near
 abbrev pub LiesNear : Plane → Type 0
 LiesNear s = (x y : ℤ) → s x y ≡ true → IsNear x y
-
--- what holds of each holds of the one with a number
-of_number : {X : Type 0} (P : X → Type 0) (xs : List X) (k : ℕ) (x : X) → AllByRecursion P xs → IsNumbered xs k x → P x
-of_number P [] k x all n = absurd n
-of_number P (first ∷ xs) zero x all n = absurd n
-of_number P (first ∷ xs) (suc zero) x all n = subst P (sym n) all.0
-of_number P (first ∷ xs) (suc (suc k)) x all n = of_number P xs (suc k) x all.1 n
 
 glider_near : (settings : Settings) → IsApproach settings.approach → (time d : ℤ) → IsFrom (neg_ℤ (pos (2 ^ 57))) (pos (2 ^ 57)) time → IsDelay d → LiesNear (stream_glider ((time -ℤ settings.approach) -ℤ d))
 glider_near settings a time d when from x y h =

@@ -1,6 +1,6 @@
 -- The pattern of a plan as cells.
 use Rattle.std.specs.Prelude.{◌≡◌, ℕ, ℤ, ◌^◌, pos, neg_ℤ, List}
-use Rattle.life_plane.specs.Plane.{Plane, union, shift}
+use Rattle.life_plane.specs.Plane.{Plane, union}
 use Rattle.life_cells.specs.Cells.{alive}
 use Rattle.book_parts.specs.Limits.{IsFrom}
 use Rattle.book_parts.specs.Kinds.{kind_plane}

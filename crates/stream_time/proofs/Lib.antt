@@ -1,4 +1,4 @@
 -- Lemmas on schedules.
 pub mod Numbers
 pub mod Places
-pub mod PlanSoFar
+pub mod EventsAdded

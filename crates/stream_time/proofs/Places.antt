@@ -1,9 +1,8 @@
 -- Items by their numbers, from 1 on, and the hits of a sound salvo.
-use Rattle.std.proofs.Common.{◌≡◌, ℕ, zero, suc, ◌-◌, ◌≤◌, ◌<◌, List, [], ◌∷◌, length, get_or, refl, sym, ap, subst, ◌∙◌, arith, ℤ}
+use Rattle.std.proofs.Common.{◌≡◌, ℕ, zero, suc, ◌-◌, ◌≤◌, List, [], ◌∷◌, length, get_or, refl, sym, ap, subst, ◌∙◌, arith, ℤ}
 use Rattle.std.specs.List.{AllByRecursion}
 use Rattle.life_plane.specs.Plane.{Plane}
 use Rattle.life_cells.specs.Cells.{alive}
-use Rattle.life_plane.specs.ListLaws.{each_at}
 use Rattle.elbow_graph.specs.Numbered.{IsNumbered}
 use Rattle.recipe_hit.specs.Sound.{AreHits}
 use Rattle.recipe_hit.specs.declared.hit.Hit.{Hit}
@@ -40,10 +39,3 @@ short_hits struck (lane ∷ lanes) [] h = absurd h
 short_hits struck (lane ∷ lanes) (hit ∷ hits) h =
     let rest = short_hits (alive hit.after) lanes hits h.1 in
     record { count = ap suc rest.count; each = (h.0.soon, rest.each) }
-
--- what holds of each holds of the one with a number
-pub of_number : {X : Type 0} (P : X → Type 0) (xs : List X) (k : ℕ) (x : X) → AllByRecursion P xs → IsNumbered xs k x → P x
-of_number P [] k x all n = absurd n
-of_number P (first ∷ xs) zero x all n = absurd n
-of_number P (first ∷ xs) (suc zero) x all n = subst P (sym n) all.0
-of_number P (first ∷ xs) (suc (suc k)) x all n = of_number P xs (suc k) x all.1 n

@@ -1,5 +1,5 @@
 -- One more event of a plan in time.
-use Rattle.std.specs.Prelude.{◌≡◌, ℕ, ℤ, pos, ◌*ℤ◌, ◌≤ℤ◌, Option}
+use Rattle.std.specs.Prelude.{◌≡◌, ℕ, pos, ◌*ℤ◌, ◌≤ℤ◌, Option}
 use Rattle.std.specs.declared.option.Option.TheVariants.{Some}
 use Rattle.book_parts.specs.declared.turn.RawTurn.{RawTurn}
 use Rattle.elbow_graph.specs.Numbered.{IsNumbered}

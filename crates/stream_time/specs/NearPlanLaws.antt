@@ -1,9 +1,8 @@
 -- In a plan of a checked book for a target all shifts and places are near.
-use Rattle.std.specs.Prelude.{◌≡◌, false, true, ℕ, suc, ◌+◌, ◌≤◌, ◌^◌, ℤ, pos, neg_ℤ, ◌+ℤ◌, ◌-ℤ◌, ◌≤ℤ◌, List, [], ◌∷◌, ◌++◌, Option}
-use Rattle.std.specs.Int.{int_max}
+use Rattle.std.specs.Prelude.{◌≡◌, false, true, ℕ, suc, ◌^◌, ℤ, pos, neg_ℤ, ◌+ℤ◌, ◌-ℤ◌, ◌≤ℤ◌, List, [], ◌∷◌, ◌++◌, Option}
 use Rattle.std.specs.List.{AllByRecursion}
 use Rattle.std.specs.declared.option.Option.TheVariants.{Some, None}
-use Rattle.std.proofs.Common.{sym, ap, subst, ◌∙◌, ◌⊎◌, arith, inl, inr}
+use Rattle.std.proofs.Common.{sym, ap, subst, ◌∙◌, arith, inl, inr}
 use Rattle.std.proofs.lemmas.Int.{ints, clamps}
 use Rattle.life_plane.specs.ListLaws.{all_append}
 use Rattle.life_plane.specs.Plane.{Plane, nothing}
@@ -28,10 +27,8 @@ use Rattle.elbow_graph.specs.Goals.{IsEnd, Passes, IsRoute}
 use Rattle.elbow_graph.specs.Numbered.{IsNumbered}
 use Rattle.elbow_graph.specs.NumberedLaws.{turn_numbered}
 use Rattle.recipe_turn.specs.Checked.{raws}
-use Rattle.recipe_hit.specs.Checked.{Struck}
 use Rattle.recipe_hit.specs.declared.hit.Hit.{Hit}
 use Rattle.recipe_book.specs.Checked.{CheckedEntries, IsCheckedBook}
-use Rattle.hand_route.specs.Moves.{moved_by, leaves_hand}
 use Rattle.hand_route.specs.Lists.{IsHandList, IsFarewell}
 use Rattle.build_plan.specs.declared.event.Event.{Event}
 use Rattle.build_plan.specs.declared.throw.Throw.{Throw}
@@ -41,11 +38,12 @@ use Rattle.build_plan.specs.Numbers.{item_of}
 use Rattle.build_plan.specs.NumberLaws.{item_numbered}
 use Rattle.build_plan.specs.TurnEvents as turn_events
 use Rattle.build_plan.specs.TurnEvents.{elbow_past, elbow_after}
-use Rattle.build_plan.specs.Throws.{hits_of, hit_throws, salvo_throws, carried, place_past, list_throws}
+use Rattle.build_plan.specs.Throws.{hits_of, hit_throws, salvo_throws, place_past, list_throws}
+use Rattle.build_plan.specs.ThrowLaws.{past_there}
 use Rattle.build_plan.specs.Served.{AreServed, hit_event}
 use Rattle.build_plan.specs.Stand.{Stand}
 use Rattle.build_plan.specs.Usable.{Taken, site_of, IsWay, way_throws, SaysFarewell, MayLeave, stand_after, hand_after}
-use Rattle.build_plan.specs.Placing.{to_corner, room_about, IsEmptyPlacing, IsBoxPlacing, IsPlacing, back_of}
+use Rattle.build_plan.specs.Placing.{room_about, IsPlacing, back_of}
 use Rattle.build_plan.specs.Plan.{TakeOn, taken_events, first_place, IsPlan}
 use Rattle.event_times.specs.Early.{IsNearShift}
 use Rattle.stream_time.specs.NearEvents.{far_place, IsNearPlace, IsNearEvent, AreNearEvents, IsNearHand, IsNearPlan}
@@ -62,10 +60,6 @@ moves_there : (end : TurnEnd) (from to : Elbow) → leaves end from.shift ≡ So
 moves_there Close from to h = absurd (cc)
 moves_there (Move kind advance) from to h = cc
 moves_there (Emit kind advance lane j) from to h = cc
-
-carried_there : (from to : Cell) (by : Option Cell) → moved_by from by ≡ Some to → carried from by ≡ to
-carried_there from to None h = absurd (cc)
-carried_there from to (Some by) h = cc
 
 end_near : (span wanted : ℤ) (end : TurnEnd) (from : Elbow) → IsEnd (goals.Lane wanted) span end from.shift → IsInSpan span (turn_events.moved_by end from)
 end_near span wanted Close from h = absurd h
@@ -135,15 +129,12 @@ module _ (book : CheckedEntries) (small : IsFrom (pos 0) GREATEST_SPAN book.sett
   salvo_near : (number : ℕ) (at : Cell) → IsNearPlace at → AreNearThrows (salvo_throws book.salvos number at)
   salvo_near number at near = hits_near number at 1 (hits_of (item_of book.salvos number)) near
 
-  place_is : (k : ℕ) (salvo : Struck) (from to : Cell) → IsNumbered book.salvos k salvo → leaves_hand salvo from ≡ Some to → place_past (item_of book.salvos k) from ≡ to
-  place_is k salvo from to numbered leaves_it = ap (λ (o : Option Struck). place_past o from) (item_numbered book.salvos k salvo numbered) ∙ carried_there from to salvo.raw.hand leaves_it
-
   module _ (room : Bounds) (near_room : IsBoxInRange far_place room) where
     way_near : (built : Plane) (from to : Cell) (list : List ℕ) → IsNearPlace from → IsHandList (site_of book room built) from list to → AreNearThrows (list_throws book.salvos from list)
     way_near built from to [] near leads = tt
     way_near built from to (k ∷ ks) near (between, (carries, more)) =
         all_append IsNearThrow (salvo_throws book.salvos k from) (list_throws book.salvos (place_past (item_of book.salvos k) from) ks) (salvo_near k from near)
-        (subst (λ (c : Cell). AreNearThrows (list_throws book.salvos c ks)) (sym (place_is k carries.salvo from between carries.moves.numbered carries.leaves))
+        (subst (λ (c : Cell). AreNearThrows (list_throws book.salvos c ks)) (sym (past_there book.salvos k carries.salvo from between carries.moves.numbered carries.leaves))
         (way_near built between to ks (in_room room between near_room carries.in_room) more))
 
     away_near : (built : Plane) (from : Cell) (list : List ℕ) → IsNearPlace from → IsFarewell (site_of book room built) from list → AreNearThrows (list_throws book.salvos from list)
@@ -153,7 +144,7 @@ module _ (book : CheckedEntries) (small : IsFrom (pos 0) GREATEST_SPAN book.sett
         (subst (λ (l : List ℕ). AreNearThrows (list_throws book.salvos (place_past (item_of book.salvos k) from) l)) (sym last.1) tt)
     away_near built from (k ∷ ks) near (inr (between, (carries, more))) =
         all_append IsNearThrow (salvo_throws book.salvos k from) (list_throws book.salvos (place_past (item_of book.salvos k) from) ks) (salvo_near k from near)
-        (subst (λ (c : Cell). AreNearThrows (list_throws book.salvos c ks)) (sym (place_is k carries.salvo from between carries.moves.numbered carries.leaves))
+        (subst (λ (c : Cell). AreNearThrows (list_throws book.salvos c ks)) (sym (past_there book.salvos k carries.salvo from between carries.moves.numbered carries.leaves))
         (away_near built between ks (in_room room between near_room carries.in_room) more))
 
     throws_near : (built : Plane) (from : Option Cell) (way : List ℕ) (number : ℕ) (place : Cell) → IsNearHand from → IsNearPlace place → IsWay book room built from way place → AreNearThrows (way_throws book.salvos from way number place)

@@ -6,7 +6,7 @@ use Rattle.recipe_turn.specs.Checked.{raws}
 use Rattle.build_plan.specs.Stops.{HasNoClosing}
 use Rattle.build_plan.specs.TurnEvents.{turn_events, gliders_of}
 use Rattle.build_plan.specs.Walked.{AreWalked}
-use Rattle.build_plan.proofs.Ending.{no_closing, long_closing, plan_there}
+use Rattle.build_plan.proofs.Closings.{no_closing, long_closing, plan_there}
 use Rattle.build_plan.proofs.OneByOne.{route_walked}
 use Rattle.build_plan.proofs.closing.close.Goals as goal
 

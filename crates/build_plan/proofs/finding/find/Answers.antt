@@ -1,4 +1,4 @@
-use Rattle.build_plan.proofs.Starting.{cells_far, not_empty, begins}
+use Rattle.build_plan.proofs.FirstIsland.{cells_far, not_empty, begins}
 use Rattle.build_plan.proofs.finding.find.Goals as goal
 
 pub shape_of-requires-clause-some : goal.shape_of-requires-clause-some

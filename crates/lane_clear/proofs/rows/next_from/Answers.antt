@@ -1,7 +1,7 @@
 use Rattle.std.proofs.Common.{◌∙◌, arith}
 use Rattle.std.proofs.lemmas.Int.{ints}
 use Rattle.lane_clear.proofs.BoxRows.{looked_up}
-use Rattle.lane_clear.specs.BaseLaws.{copied_item}
+use Rattle.life_plane.specs.LookUpLaws.{copied_item}
 use Rattle.lane_clear.proofs.rows.next_from.Goals as goal
 
 pub returns : goal.returns

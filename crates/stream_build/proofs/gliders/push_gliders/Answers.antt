@@ -5,7 +5,9 @@ use Rattle.life_plane.specs.Plane.{union}
 use Rattle.recipe_turn.specs.Turn.{gliders}
 use Rattle.life_cells.specs.Listed.{listed}
 use Rattle.book_parts.specs.Proper.{IsDelay}
-use Rattle.stream_build.proofs.Gliding.{delay_read, time_read, own, one_more, all_there}
+use Rattle.book_parts.specs.LimitLaws.{delay_read}
+use Rattle.recipe_turn.specs.Gliders.{own}
+use Rattle.stream_build.proofs.Gliding.{time_read, one_more, all_there}
 use Rattle.stream_build.proofs.gliders.push_gliders.Goals as goal
 
 pub loop-delay-init : goal.loop-delay-init

@@ -4,9 +4,7 @@ use Rattle.life_plane.specs.Plane.{Plane, union, shift}
 use Rattle.life_cells.specs.Boxes.{CanMove, IsInRange}
 use Rattle.life_cells.specs.Cells.{Cells, alive}
 use Rattle.life_cells.specs.Listed.{listed}
-use Rattle.book_parts.specs.Kinds.{kind_plane}
 use Rattle.plan_facts.specs.Happenings.{Happening}
-use Rattle.plan_facts.specs.State.{hand_plane, first_hand}
 use Rattle.build_plan.specs.declared.event.Event.{Event}
 use Rattle.stream_build.specs.Laying.{AreStarted, laid}
 use Rattle.stream_build.proofs.Near.{laid_near, near_moves, moved_range}

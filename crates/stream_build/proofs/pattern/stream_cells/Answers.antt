@@ -1,7 +1,6 @@
-use Rattle.std.proofs.Common.{◌≡◌, ℕ, ◌+◌, ◌≤◌, ℤ, pos, w64, to_z, of_z, List, get_or, Vec, Global, sym, ap, subst, ◌∙◌, arith}
+use Rattle.std.proofs.Common.{◌≡◌, ℕ, ◌+◌, ◌≤◌, pos, w64, to_z, of_z, List, get_or, Vec, Global, sym, ap, subst, ◌∙◌, arith}
 use Rattle.std.proofs.lemmas.Int.{ints}
 use Rattle.life_plane.specs.ListLaws.{each_at}
-use Rattle.build_plan.specs.declared.event.Event.{Event}
 use Rattle.build_plan.specs.declared.event.Event.TheVariants.{Turn}
 use Rattle.life_plane.specs.Plane.{union}
 use Rattle.life_cells.specs.Listed.{listed}

@@ -1,4 +1,4 @@
-use Rattle.std.proofs.Common.{◌≡◌, ◌≤◌, ℕ, ℤ, pos, ◌*ℤ◌, ◌≤ℤ◌, List, length, sym, ap, subst, Result, Ok, Err, OnOk, Option, Some}
+use Rattle.std.proofs.Common.{◌≡◌, ℕ, pos, ◌*ℤ◌, ◌≤ℤ◌, List, sym, subst, Result, Ok, Err, OnOk}
 use Rattle.elbow_graph.specs.Numbered.{IsNumbered}
 use Rattle.life_cells.specs.declared.cell.Cell.{Cell}
 use Rattle.recipe_hit.specs.Checked.{Struck}
@@ -7,13 +7,12 @@ use Rattle.recipe_hit.specs.declared.frame.HitFrame.{HitFrame}
 use Rattle.recipe_book.specs.Checked.{CheckedEntries}
 use Rattle.event_times.specs.Early.{IsEarlyFrame}
 use Rattle.event_times.specs.Clock.{HitIsAdded}
-use Rattle.event_times.specs.declared.least.Sent.{Sent}
 use Rattle.build_plan.specs.declared.event.Event.{Event}
 use Rattle.build_plan.specs.declared.event.Event.TheVariants as events
 use Rattle.build_plan.specs.Happenings.{IsOfBook}
 use Rattle.stream_time.specs.Adding.{IsHitThere, GliderComes, EventIsAdded}
 use Rattle.stream_time.specs.NearEvents.{IsNearEvent}
-use Rattle.stream_time.proofs.PlanSoFar.{hit_early, hit_frame}
+use Rattle.stream_time.proofs.EventsAdded.{hit_early, hit_frame}
 use Rattle.stream_time.proofs.scheduling.add_event.Goals as goal
 
 -- a hit that there is, in a list of salvos that was read

@@ -1,4 +1,4 @@
-use Rattle.std.proofs.Common.{◌≡◌, ◌<◌, ◌≤◌, pos, List, length, get_or, refl, sym, ap, subst, ◌∙◌}
+use Rattle.std.proofs.Common.{◌<◌, ◌≤◌, pos, List, length, get_or, refl, sym, subst}
 use Rattle.plan_facts.specs.State.{first_state}
 use Rattle.build_plan.specs.declared.event.Event.{Event}
 use Rattle.build_plan.specs.declared.event.Event.TheVariants.{Turn}
@@ -6,7 +6,7 @@ use Rattle.build_plan.specs.Happenings.{IsOfBook}
 use Rattle.stream_time.specs.Adding.{GliderComes, EventIsAdded}
 use Rattle.stream_time.specs.NearEvents.{IsNearEvent}
 use Rattle.stream_time.specs.NearPlanLaws.{plan_near}
-use Rattle.stream_time.proofs.PlanSoFar.{so_far_begins, so_far_ends, so_far_few, own_event, near_event, few_turns, event_comes, event_added}
+use Rattle.stream_time.proofs.EventsAdded.{so_far_begins, so_far_ends, so_far_few, own_event, near_event, few_turns, event_comes, event_added}
 use Rattle.stream_time.proofs.scheduling.schedule.Goals as goal
 
 pub loop-event-init : goal.loop-event-init

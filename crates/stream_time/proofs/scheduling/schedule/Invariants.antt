@@ -1,4 +1,4 @@
-use Rattle.stream_time.proofs.PlanSoFar.{IsSoFar}
+use Rattle.stream_time.proofs.EventsAdded.{IsSoFar}
 use Rattle.stream_time.proofs.scheduling.schedule.Given as goal
 
 -- so many events are in time

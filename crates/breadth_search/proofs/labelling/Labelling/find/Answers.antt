@@ -1,5 +1,5 @@
 use Rattle.std.proofs.Common.{sym, ◌∙◌, ap, Some}
-use Rattle.breadth_search.specs.ItemLaws.{when_none, when_some}
+use Rattle.life_plane.specs.LookUpLaws.{when_none, when_some}
 use Rattle.breadth_search.specs.SeekingLaws.{not_reached, lacks_more, at_last, grown_more}
 use Rattle.breadth_search.proofs.labelling.Labelling.find.Goals as goal
 

@@ -1,6 +1,6 @@
 use Rattle.std.proofs.Common.{sym}
 use Rattle.breadth_search.proofs.Growing.{fewer_left, same_on, still_here, kept_from, kept_turns}
-use Rattle.breadth_search.specs.ItemLaws.{when_none, past_end}
+use Rattle.life_plane.specs.LookUpLaws.{when_none, past_end}
 use Rattle.breadth_search.proofs.Kept.{is_labelling}
 use Rattle.breadth_search.proofs.labelling.Labelling.grow.Goals as goal
 

@@ -1,7 +1,7 @@
 use Rattle.std.proofs.Common.{subst}
 use Rattle.std.proofs.lemmas.Option.{slice_get_within}
 use Rattle.breadth_search.specs.Leads.{IsFirstEnd}
-use Rattle.breadth_search.specs.ItemLaws.{when_none, when_some}
+use Rattle.life_plane.specs.LookUpLaws.{when_none, when_some}
 use Rattle.breadth_search.specs.SeekingLaws.{seek_on, seek_ends, seek_fails, seek_more, grown_on}
 use Rattle.breadth_search.proofs.labelling.Labelling.search.Goals as goal
 

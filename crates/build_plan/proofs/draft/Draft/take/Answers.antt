@@ -3,7 +3,7 @@ use Rattle.std.proofs.lemmas.List.{take_rest}
 use Rattle.recipe_turn.specs.Checked.{raws}
 use Rattle.build_plan.specs.TurnEvents.{gliders_of}
 use Rattle.build_plan.proofs.Drafting.{takes_one, first_is_or}
-use Rattle.build_plan.proofs.Starting.{cells_built}
+use Rattle.build_plan.proofs.FirstIsland.{cells_built}
 use Rattle.build_plan.proofs.draft.Draft.take.Goals as goal
 
 pub with-requires : goal.with-requires

@@ -1,7 +1,7 @@
 use Rattle.std.proofs.Common.{List, ◌∙◌, ap}
 use Rattle.std.specs.List.{slice_get}
 use Rattle.life_cells.specs.declared.cell.Cell.{Cell}
-use Rattle.lane_clear.specs.BaseLaws.{copied_item}
+use Rattle.life_plane.specs.LookUpLaws.{copied_item}
 use Rattle.hand_route.proofs.CarriedPlaces.{near_at}
 use Rattle.hand_route.proofs.found.Found.at.Goals as goal
 

@@ -6,7 +6,7 @@ use Rattle.breadth_search.specs.Labelled.{Labelled}
 use Rattle.breadth_search.specs.Leads.{IsFirstEnd}
 use Rattle.breadth_search.specs.SeekingLaws.{seek_on, seek_ends, seek_fails, grown_on}
 use Rattle.hand_route.specs.Ways.{Ground, carries, takes}
-use Rattle.breadth_search.specs.ItemLaws.{when_none, when_some}
+use Rattle.life_plane.specs.LookUpLaws.{when_none, when_some}
 use Rattle.hand_route.proofs.ways.HandWays.farewell.Goals as goal
 
 pub first_taker-requires : goal.first_taker-requires

@@ -8,7 +8,7 @@ use Rattle.breadth_search.specs.Labelled.{Labelled}
 use Rattle.breadth_search.specs.KeyLaws.{same_cell as by_parts}
 use Rattle.breadth_search.specs.SeekingLaws.{not_reached, lacks_more, at_last, grown_more}
 use Rattle.hand_route.specs.Ways.{Ground, carries}
-use Rattle.breadth_search.specs.ItemLaws.{when_none, when_some}
+use Rattle.life_plane.specs.LookUpLaws.{when_none, when_some}
 use Rattle.hand_route.proofs.Kept.{equal_cells, equal_cells-itself}
 use Rattle.hand_route.proofs.ways.HandWays.find.Goals as goal
 

@@ -3,7 +3,7 @@ use Rattle.life_cells.specs.declared.cell.Cell.{Cell}
 use Rattle.breadth_search.specs.Labelled.{Labelled}
 use Rattle.hand_route.specs.Rooms.{Places}
 use Rattle.hand_route.specs.Ways.{Ground}
-use Rattle.breadth_search.specs.ItemLaws.{when_none, when_some, past_end}
+use Rattle.life_plane.specs.LookUpLaws.{when_none, when_some, past_end}
 use Rattle.hand_route.proofs.Kept.{is_labelling, kept_at, kept_from, labelling_from, kept_on, fewer_left}
 use Rattle.hand_route.proofs.ways.HandWays.grow.Goals as goal
 

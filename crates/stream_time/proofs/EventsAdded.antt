@@ -1,6 +1,6 @@
--- The events of a plan so far, in time.
-use Rattle.std.proofs.Common.{◌≡◌, ℕ, zero, suc, ◌+◌, ◌-◌, ◌<◌, ◌≤◌, ℤ, pos, neg_ℤ, ◌+ℤ◌, ◌-ℤ◌, ◌*ℤ◌, ◌≤ℤ◌, List, [], ◌∷◌, ◌++◌, length, length-append, map, take, drop, get_or, reverse, max, Option, refl, sym, ap, subst, ◌∙◌, ◌⊎◌, inl, inr, arith}
-use Rattle.std.specs.List.{AllByRecursion, slice_get}
+-- The events of a plan, added to a clock one by one.
+use Rattle.std.proofs.Common.{◌≡◌, ℕ, zero, suc, ◌+◌, ◌-◌, ◌<◌, ◌≤◌, ℤ, pos, ◌+ℤ◌, ◌*ℤ◌, ◌≤ℤ◌, List, [], ◌∷◌, ◌++◌, length, length-append, map, take, drop, get_or, reverse, max, Option, refl, sym, ap, subst, ◌∙◌, ◌⊎◌, inl, inr, arith}
+use Rattle.std.specs.List.{AllByRecursion}
 use Rattle.std.specs.declared.option.Option.TheVariants.{Some, None}
 use Rattle.std.proofs.lemmas.Int.{ints}
 use Rattle.std.proofs.lemmas.Bool.{cases_lt}
@@ -60,7 +60,8 @@ use Rattle.build_plan.specs.TurnEvents.{delays_of, gliders_of}
 use Rattle.stream_time.specs.InTime.{starts_of, AreEarlyStarts, IsSchedule}
 use Rattle.stream_time.specs.NearEvents.{IsNearPlace, IsNearEvent, AreNearEvents}
 use Rattle.stream_time.specs.declared.times.Schedule.{Schedule}
-use Rattle.stream_time.proofs.Places.{of_number, short_hits}
+use Rattle.elbow_graph.specs.NumberedLaws.{of_number}
+use Rattle.stream_time.proofs.Places.{short_hits}
 use Rattle.stream_time.specs.Adding.{IsHitThere, GliderComes, EventIsAdded}
 
 -- ---- one more behind the others
