@@ -1,8 +1,8 @@
 -- The least u of a thrown glider.
-use Rattle.std.proofs.Common.{◌≡◌, ℕ, ◌/◌, ◌≤◌, ℤ, pos, negsuc, ◌+ℤ◌, ◌*ℤ◌, ◌≤ℤ◌, ◌<ℤ◌, sym, subst, ◌∙◌, arith}
+use Rattle.std.proofs.Common.{◌≡◌, ℕ, ◌/◌, ◌≤◌, ℤ, pos, negsuc, neg_ℤ, ◌+ℤ◌, ◌*ℤ◌, ◌≤ℤ◌, ◌<ℤ◌, sym, subst, ◌∙◌, arith}
 use Rattle.std.specs.Int.{int_div_euclid}
 use Rattle.std.proofs.lemmas.Int.{ints}
-use Rattle.book_parts.specs.Limits.{IsCoordinate}
+use Rattle.book_parts.specs.Limits.{IsFrom, IsCoordinate}
 use Rattle.book_parts.specs.Proper.{IsIndex}
 use Rattle.book_parts.specs.declared.settings.Settings.{Settings}
 use Rattle.book_parts.specs.declared.turn.TurnEnd.{TurnEnd}
@@ -13,13 +13,11 @@ use Rattle.recipe_turn.specs.Refusals.{FrontIsRefused}
 use Rattle.recipe_turn.specs.declared.refusal.TurnRefusal.TheVariants.{Wall}
 
 -- an index has no more quarters than it has units
-pub quarters_within : (j : ℤ) → IsIndex j → IsIndex (int_div_euclid j (pos 4))
-quarters_within (pos a) h =
-    let high = h.high in
+pub quarters_within : (n : ℕ) (j : ℤ) → neg_ℤ (pos n) ≤ℤ j → j ≤ℤ pos n → IsFrom (neg_ℤ (pos n)) (pos n) (int_div_euclid j (pos 4))
+quarters_within n (pos a) low high =
     let less : a / 4 ≤ a = omega arith in
     record { low = omega (arith, ints); high = omega (arith, ints) }
-quarters_within (negsuc a) h =
-    let low = h.low in
+quarters_within n (negsuc a) low high =
     let less : a / 4 ≤ a = omega arith in
     record { low = omega (arith, ints); high = omega (arith, ints) }
 

@@ -1,8 +1,8 @@
 -- A sound turn has no refusal, and a turn has one at most; and so with kinds.
-use Rattle.std.proofs.Common.{◌≡◌, ◌≢◌, ℕ, zero, suc, ◌+◌, ◌<◌, ◌≤◌, true, ℤ, pos, List, [], ◌∷◌, ◌++◌, length, get_or, take, refl, sym, ap, subst, ◌∙◌, inl, inr, append_assoc, arith}
+use Rattle.std.proofs.Common.{◌≡◌, ◌≢◌, ℕ, ◌+◌, ◌<◌, ◌≤◌, true, ℤ, pos, List, [], ◌∷◌, ◌++◌, length, get_or, take, refl, sym, ap, subst, ◌∙◌, inl, inr, arith}
 use Rattle.std.specs.List.{AllByRecursion}
 use Rattle.std.proofs.lemmas.Bool.{cases_lt}
-use Rattle.std.proofs.lemmas.List.{take-append-le, take_at, length_push, get_or_append_left}
+use Rattle.std.proofs.lemmas.List.{take-append-le, get_or_append_left}
 use Rattle.std.proofs.Math.Seq.{get_or-append_seam}
 use Rattle.life_plane.specs.Plane.{Plane, run}
 use Rattle.life_cells.specs.declared.cell.Cell.{Cell}
@@ -16,7 +16,7 @@ use Rattle.life_cells.specs.Firsts.{IsFirstOf, IsFirstChange}
 use Rattle.life_cells.specs.FirstLaws.{one_first}
 use Rattle.recipe_turn.specs.Kind.{IsValidKind, IsFirstOutOfPlace, AreInPlace}
 use Rattle.recipe_turn.specs.Turn.{IsSound}
-use Rattle.recipe_turn.specs.Gaps.{AreApart, AreApartFrom, IsFirstNarrow}
+use Rattle.recipe_turn.specs.Gaps.{AreApart, IsFirstNarrow}
 use Rattle.recipe_turn.specs.Breaches.{KeepsBefore, IsFirstBreach}
 use Rattle.recipe_turn.specs.Checked.{AreValid}
 use Rattle.recipe_turn.specs.Refusals.{IsFirstInvalid, KindsAreRefused, TurnIsRefused, IsFrontOf}
@@ -25,28 +25,9 @@ use Rattle.recipe_turn.specs.declared.refusal.KindsError.TheVariants as kinds
 use Rattle.recipe_turn.specs.declared.refusal.TurnRefusal.{TurnRefusal}
 use Rattle.recipe_turn.specs.declared.refusal.TurnRefusal.TheVariants.{Gap, Short, EndDiffers, Reach, Tail, Wall, Memory}
 use Rattle.life_plane.specs.ListLaws.{each_at}
-use Rattle.recipe_turn.proofs.Spacing.{spaced_apart}
+use Rattle.recipe_turn.specs.GapLaws.{spaced_apart, apart_take, take_narrow, narrow_not_apart}
 
 -- ---- one first narrow gap
-
-from_take : (before : ℤ) (ds : List ℤ) (n : ℕ) → AreApartFrom before ds → AreApartFrom before (take n ds)
-from_take before [] zero h = tt
-from_take before [] (suc n) h = tt
-from_take before (d ∷ ds) zero h = tt
-from_take before (d ∷ ds) (suc n) h = (h.0, from_take d ds n h.1)
-
-apart_take : (ds : List ℤ) (n : ℕ) → AreApart ds → AreApart (take n ds)
-apart_take [] zero h = tt
-apart_take [] (suc n) h = tt
-apart_take (d ∷ ds) zero h = tt
-apart_take (d ∷ ds) (suc n) h = (h.0, from_take d ds n h.1)
-
-take_narrow : (ds front back : List ℤ) (here : ℤ) → ds ≡ front ++ (here ∷ back) → take (length front + 1) ds ≡ front ++ (here ∷ [])
-take_narrow ds front back here split =
-    ap (take (length front + 1)) (split ∙ sym (append_assoc front (here ∷ []) back)) ∙ take_at (front ++ (here ∷ [])) back (length front + 1) (length_push front here)
-
-narrow_not_apart : (ds : List ℤ) (place : ℕ) → IsFirstNarrow ds place → AreApart ds → ⊥
-narrow_not_apart ds place n h = n.narrow (subst AreApart (take_narrow ds n.front n.back n.here n.split) (apart_take ds (length n.front + 1) h))
 
 narrow_not_later : (ds : List ℤ) (place other : ℕ) (n : IsFirstNarrow ds place) (m : IsFirstNarrow ds other) → length n.front < length m.front → ⊥
 narrow_not_later ds place other n m lt =

@@ -91,12 +91,3 @@ not_spaced [] n last is short h = absurd (omega arith)
 not_spaced (d ∷ ds) n last is short h =
     let at_end : last ≡ length ds = omega arith in
     short_from d ds n (subst (λ k. n <ℤ (get_or (d ∷ ds) k (pos 0) +ℤ pos gap)) at_end short) h.1
-
--- delays that are spaced are apart
-apart_from_spaced : (before : ℤ) (ds : List ℤ) (n : ℤ) → AreSpacedFrom before ds n → AreApartFrom before ds
-apart_from_spaced before [] n h = tt
-apart_from_spaced before (d ∷ ds) n h = (h.0, apart_from_spaced d ds n h.1)
-
-pub spaced_apart : (ds : List ℤ) (n : ℤ) → AreSpaced ds n → AreApart ds
-spaced_apart [] n h = absurd h
-spaced_apart (d ∷ ds) n h = (h.0, apart_from_spaced d ds n h.1)

@@ -9,3 +9,5 @@ pub mod Breaches
 pub mod Range
 pub mod Checked
 pub mod Refusals
+pub mod StartLaws
+pub mod GapLaws

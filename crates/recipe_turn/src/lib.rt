@@ -15,7 +15,7 @@ pub mod named_kinds;
 mod own_gliders;
 pub mod refusal;
 mod soundness;
-mod turn_ends;
+pub mod turn_ends;
 
 pub use checked_kinds::{Kinds, check_kinds};
 pub use checked_turn::{CheckedTurn, check_turn};
@@ -25,3 +25,4 @@ pub use kinds::first_out_of_place;
 pub use named_kinds::kind_cells;
 pub use own_gliders::starting_gliders;
 pub use refusal::{KindsError, TurnRefusal};
+pub use turn_ends::least_u;

@@ -1,10 +1,9 @@
 //! What a turn states that it leaves.
 
-ghost use Rattle.std.specs.Prelude.{◌≡◌, pos, ◌+ℤ◌, ◌*ℤ◌, IfOk, IfErr};
+ghost use Rattle.std.specs.Prelude.{◌≡◌, ◌^◌, pos, neg_ℤ, ◌+ℤ◌, ◌*ℤ◌, ◌≤ℤ◌, IfOk, IfErr};
 ghost use Rattle.std.specs.Int.{int_div_euclid};
 ghost use Rattle.life_cells.specs.Cells.{alive};
-ghost use Rattle.book_parts.specs.Limits.{AreProper, IsPlaced, IsCoordinate};
-ghost use Rattle.book_parts.specs.Proper.{IsIndex};
+ghost use Rattle.book_parts.specs.Limits.{AreProper, IsPlaced};
 ghost use Rattle.recipe_turn.specs.Turn.{turn_end, IsInFront};
 ghost use Rattle.recipe_turn.specs.Refusals.{FrontIsRefused};
 ghost use Rattle.recipe_turn.specs.Range.{IsWithinLimits};
@@ -32,10 +31,12 @@ pub(crate) fn stated_end(alloc: Global, end: TurnEnd, next: &CellSet) -> Result<
     }
 }
 
-/// The least u = x - y of the glider that is on this lane at this index.
-fn least_u(lane: i64, j: i64) -> i64
-    requires lane { IsCoordinate lane }
-    requires j { IsIndex j }
+/// The least u = x - y of the glider of this lane in the quarter that it is in at this index: what is held against the wall where it is thrown.
+pub fn least_u(lane: i64, j: i64) -> i64
+    requires lane_low { neg_ℤ (pos (2 ^ 50)) ≤ℤ lane }
+    requires lane_high { lane ≤ℤ pos (2 ^ 50) }
+    requires index_low { neg_ℤ (pos (2 ^ 50)) ≤ℤ j }
+    requires index_high { j ≤ℤ pos (2 ^ 50) }
     ensures { result ≡ (lane +ℤ pos 2 *ℤ int_div_euclid j (pos 4)) +ℤ pos 1 }
 {
     let quarters = j.div_euclid(4);

@@ -3,7 +3,7 @@ use Rattle.life_plane.specs.Plane.{run}
 use Rattle.life_cells.specs.Cells.{alive}
 use Rattle.life_cells.specs.Boxes.{IsInRange}
 use Rattle.recipe_turn.specs.Turn.{AreSpaced}
-use Rattle.recipe_turn.proofs.Ranges.{start_in_range}
+use Rattle.recipe_turn.specs.StartLaws.{start_in_range}
 use Rattle.recipe_turn.proofs.Courses.{start_is}
 use Rattle.recipe_turn.proofs.soundness.test_turn.Goals as goal
 use Rattle.life_tiles.specs.CourseLaws.{first_different}
