@@ -1,5 +1,5 @@
 -- The least box about live cells.
-use Rattle.std.proofs.Common.{◌≡◌, ℕ, zero, suc, ◌+◌, ◌*◌, ◌/◌, ◌%◌, ◌^◌, ◌-◌, ◌<◌, ◌≤◌, ◌==◌, ◌≢◌, slice_index, Bool, true, false, ℤ, pos, ◌+ℤ◌, ◌*ℤ◌, List, w64, refl, sym, ap, subst, ◌∙◌, arith, inl, inr}
+use Rattle.std.proofs.Common.{◌≡◌, ℕ, zero, suc, ◌+◌, ◌*◌, ◌/◌, ◌%◌, ◌^◌, ◌-◌, ◌<◌, ◌≤◌, ◌==◌, ◌≢◌, slice_index, true, false, pos, ◌+ℤ◌, ◌*ℤ◌, List, w64, refl, sym, ap, subst, ◌∙◌, arith, inl, inr}
 use Rattle.std.specs.Int.{bit_at, trailing_zeros, leading_zeros}
 use Rattle.std.proofs.lemmas.Bool.{cases_lt}
 use Rattle.std.proofs.lemmas.Int.{ints}
@@ -10,13 +10,13 @@ use Rattle.life_cells.specs.Boxes.{IsLeastBox}
 use Rattle.life_cells.specs.declared.bounds.Bounds.{Bounds}
 use Rattle.life_cells.specs.Listed.{listed}
 use Rattle.life_kernel.specs.Rows.{test}
-use Rattle.life_plane.specs.Plane.{Plane, nothing, union, same_plane}
+use Rattle.life_plane.specs.Plane.{Plane, nothing, union}
 use Rattle.life_tiles.specs.declared.place.Place.{Place}
 use Rattle.life_tiles.specs.declared.span.Span.{Span}
 use Rattle.life_tiles.specs.LiveRows.{HasCell, AreLiveRows, tile_box}
 use Rattle.life_tiles.specs.Spans.{InSpan}
 use Rattle.life_tiles.specs.Tiling.{tile_cells}
-use Rattle.life_tiles.proofs.Bits.{no_bit_set, dark_none}
+use Rattle.life_tiles.proofs.Bits.{dark_none}
 use Rattle.life_tiles.proofs.Lists.{from_word, in_tile, from_tile}
 use Rattle.life_tiles.proofs.Woken.{in_or_out}
 
@@ -73,12 +73,7 @@ first_and_last w some fits =
       below = λ k h. elim (cases_lt (63 - leading_zeros w64 w) k) [ inl lt ↦ absurd (is_set w k h (bit_at_above w (suc top.0) k top.3 (omega arith))) | inr ge ↦ ge ];
     }
 
--- a word with a live cell is not 0
-pub some_cell : (w k : ℕ) → test w k ≡ true → 0 < w
-some_cell zero k h = absurd (no_bit_set k h)
-some_cell (suc w) k h = omega arith
-
--- and another has one
+-- a word that is not 0 has a live cell
 pub has_cell : (w : ℕ) → w ≢ 0 → w < 2 ^ 64 → HasCell w
 has_cell w other fits =
     let some : 0 < w = omega arith in
@@ -92,43 +87,37 @@ module _ (p : Place) (rows : List ℕ) (first : ℕ) (s : Span) (live : AreLiveR
   pub row_within : (down k : ℕ) → down < 64 → test (slice_index rows (first + down)) k ≡ true → InSpan s down
   row_within down k below h = elim (in_or_out s down) [ inl inside ↦ inside | inr out ↦ absurd (dark_none _ k (live.dead down below out) h) ]
 
-  -- where there is no row there is no live cell
-  pub no_rows_dead : s.to ≤ s.from → listed (tile_cells p rows first 64) ≡ nothing
-  no_rows_dead none = same_plane _ _ (λ x y. by x y (listed (tile_cells p rows first 64) x y) refl)
-    where
-      by : (x y : ℤ) (b : Bool) → listed (tile_cells p rows first 64) x y ≡ b → listed (tile_cells p rows first 64) x y ≡ false
-      by x y true h =
-          let t = in_tile p rows first 64 x y h in
-          let i = row_within t.down t.cell.right t.below t.cell.lives in
-          let from = i.from in
-          let to = i.to in
-          absurd (omega arith)
-      by x y false h = h
-
-  module _ (columns : ℕ) (some : s.from < s.to) (fits : columns < 2 ^ 64) (all : (j k : ℕ) → first + s.from ≤ j → j < first + s.to → test (slice_index rows j) k ≡ true → test columns k ≡ true)
-      (each : (k : ℕ) → test columns k ≡ true → (j : ℕ) × (first + s.from ≤ j) × (j < first + s.to) × (test (slice_index rows j) k ≡ true)) where
-    -- so some column has one
-    pub some_column : 0 < columns
-    some_column = let c = live.top some in some_cell columns c.right (all (first + s.from) c.right (omega arith) (omega arith) c.lives)
-
-    -- the cell in this row and column
-    at : (down k : ℕ) → down < 64 → k < 64 → test (slice_index rows (first + down)) k ≡ true → listed (tile_cells p rows first 64) (pos 64 *ℤ p.column +ℤ pos k) (pos 64 *ℤ p.row +ℤ pos down) ≡ true
-    at down k below within h = from_tile p rows first 64 down _ _ below (from_word p down (slice_index rows (first + down)) 64 k within h)
-
+  module _ (columns : ℕ) (other : columns ≢ 0) (fits : columns < 2 ^ 64)
+      (all : (j k : ℕ) → first ≤ j → j < first + 64 → test (slice_index rows j) k ≡ true → test columns k ≡ true)
+      (each : (k : ℕ) → test columns k ≡ true → (j : ℕ) × (first ≤ j) × (j < first + 64) × (test (slice_index rows j) k ≡ true)) where
     -- a row with a live cell in this column
     row_of : (k : ℕ) → test columns k ≡ true → (down : ℕ) × (down < 64) × (test (slice_index rows (first + down)) k ≡ true)
     row_of k h =
         let found = each k h in
         let low = found.1 in
         let high = found.2 in
-        let fit = s.fits in
         let is : first + (found.0 - first) ≡ found.0 = omega arith in
         (found.0 - first, omega arith, ap (λ j. test (slice_index rows j) k) is ∙ found.3)
+
+    -- where some column has a live cell there are rows
+    pub some_row : s.from < s.to
+    some_row =
+        let c = has_cell columns other fits in
+        let row = row_of c.right c.lives in
+        let i = row_within row.0 c.right row.1 row.2 in
+        let from = i.from in
+        let to = i.to in
+        omega arith
+
+    -- the cell in this row and column
+    at : (down k : ℕ) → down < 64 → k < 64 → test (slice_index rows (first + down)) k ≡ true → listed (tile_cells p rows first 64) (pos 64 *ℤ p.column +ℤ pos k) (pos 64 *ℤ p.row +ℤ pos down) ≡ true
+    at down k below within h = from_tile p rows first 64 down _ _ below (from_word p down (slice_index rows (first + down)) 64 k within h)
 
     pub tile_least : IsLeastBox (tile_box p s columns) (listed (tile_cells p rows first 64))
     tile_least =
         let fit = s.fits in
-        let bits = first_and_last columns some_column fits in
+        let some = some_row in
+        let bits = first_and_last columns (omega arith) fits in
         let low = trailing_zeros w64 columns in
         let high = 63 - leading_zeros w64 columns in
         let first_row = live.top some in
@@ -147,6 +136,7 @@ module _ (p : Place) (rows : List ℕ) (first : ℕ) (s : Span) (live : AreLiveR
                 let i = row_within t.down t.cell.right t.below t.cell.lives in
                 let from = i.from in
                 let to = i.to in
+                let below = t.below in
                 let lit = all (first + t.down) t.cell.right (omega arith) (omega arith) t.cell.lives in
                 let a = bits.above t.cell.right lit in
                 let b = bits.below t.cell.right lit in

@@ -22,6 +22,7 @@ use Rattle.life_plane.specs.Plane.{same_plane}
 use Rattle.life_tiles.specs.declared.place.Place.{Place}
 use Rattle.life_tiles.specs.declared.tile_map.TileMap.{TileMap}
 use Rattle.life_tiles.specs.Tiling.{place, index_of, IsTiled, word_at, cells_of, word_cells, tile_cells, list_cells, set_of}
+use Rattle.life_tiles.proofs.Bits.{no_bit, dark_none}
 use Rattle.life_tiles.proofs.Tiling.{index_is, tile_at_index, live_index, word_in_tile}
 
 -- ---- step by step
@@ -106,6 +107,16 @@ tile_none p rows first = refl
 pub tile_more : (p : Place) (rows : List ℕ) (first down : ℕ) → tile_cells p rows first (down + 1) ≡ tile_cells p rows first down ++ word_cells p down (slice_index rows (first + down)) 64
 unfolding tile_cells
 tile_more p rows first down = let next : down + 1 ≡ suc down = omega arith in ap (tile_cells p rows first) next
+
+-- where no row has a live cell there is none
+tile_dark : (p : Place) (rows : List ℕ) (first n : ℕ) → ((down : ℕ) → down < n → slice_index rows (first + down) ≡ 0) → tile_cells p rows first n ≡ []
+unfolding tile_cells
+tile_dark p rows first zero dark = refl
+tile_dark p rows first (suc n) dark = ap₂ (λ xs ys. xs ++ ys) (tile_dark p rows first n (λ down h. dark down (omega arith))) (empty_word p n _ (dark n (omega arith)))
+
+-- nor where no column has one
+pub no_columns : (p : Place) (rows : List ℕ) (first columns : ℕ) → ((j k : ℕ) → first ≤ j → j < first + 64 → test (slice_index rows j) k ≡ true → test columns k ≡ true) → columns ≡ 0 → tile_cells p rows first 64 ≡ []
+no_columns p rows first columns all none = tile_dark p rows first 64 (λ down h. no_bit _ (λ k live. dark_none columns k none (all (first + down) k (omega arith) (omega arith) live)))
 
 pub list_none : (places : List Place) (rows : List ℕ) → list_cells places rows 0 ≡ []
 unfolding list_cells

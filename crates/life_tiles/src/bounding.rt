@@ -33,12 +33,11 @@ fn with_tile(found: Option<Bounds>, place: Place, rows: &[u64], first: usize) ->
     requires room { first + 64 ≤ length rows.now }
     ensures { (s : Plane) → IsBoxOf found s → IsBoxOf result (union s (listed (tile_cells place rows.now first 64))) }
 {
-    let span = live_rows(rows, first);
-    if span.is_empty() {
+    let columns = any_of(rows, first, first + SIDE);
+    if columns == 0 {
         return found;
     }
-    let columns = any_of(rows, first + span.from, first + span.to);
-    let tile = tile_box(place, span, columns);
+    let tile = tile_box(place, live_rows(rows, first), columns);
     match found {
         None => Some(tile),
         Some(bounds) => Some(bounds.joined(tile)),

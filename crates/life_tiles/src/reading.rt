@@ -38,6 +38,9 @@ fn push_tile(
     requires room { first + 64 ≤ length rows.now }
     ensures { OnOk result (cells.new.items ≡ cells.old.items ++ tile_cells place rows.now first 64) }
 {
+    if any_of(rows, first, first + SIDE) == 0 {
+        return Ok(());
+    }
     'rows: for down in 0..SIDE {
         push_word(cells, place, down, rows[first + down])?;
     }
