@@ -14,9 +14,9 @@ use Rattle.recipe_hit.specs.declared.hit.Hit.{Hit}
 use Rattle.recipe_hit.specs.Strike.{IsHit, beyond}
 use Rattle.recipe_hit.specs.Refusals.{HasNoHit}
 use Rattle.recipe_hit.specs.Sound.{AreHits, what_is_left}
-use Rattle.recipe_hit.proofs.InTurn.{after_range, hand_range, hits_more}
-use Rattle.recipe_hit.proofs.OneHit.{one_hit, lives_not_nothing}
-use Rattle.recipe_hit.proofs.OneSalvo.{one_list}
+use Rattle.recipe_hit.specs.InTurnLaws.{after_range, hand_range, hits_more}
+use Rattle.recipe_hit.specs.OneHitLaws.{one_hit, lives_not_nothing}
+use Rattle.recipe_hit.specs.OneHitLaws.{one_list}
 use Rattle.find_salvo.specs.Kept.{Kept, lanes_of, left_so_far, IsMissing, IsKept}
 use Rattle.find_salvo.specs.Salvos.{IsSalvoOutcome, HasNoSalvo}
 use Rattle.find_salvo.specs.Outcomes.{IsOutcomeOf, HasNoOutcome}

@@ -13,7 +13,7 @@ use Rattle.life_cells.specs.FirstLaws.{one_first}
 use Rattle.life_islands.specs.Islands.{rest_of}
 use Rattle.recipe_hit.specs.declared.hit.Hit.{Hit}
 use Rattle.recipe_hit.specs.Sound.{what_is_left, left_hand, IsWhole, IsSoundSalvo}
-use Rattle.recipe_hit.proofs.OneSalvo.{one_list}
+use Rattle.recipe_hit.specs.OneHitLaws.{one_list}
 use Rattle.find_salvo.specs.Parts.{IsPartOf}
 use Rattle.find_salvo.specs.Outcomes.{hand_at, beside_hand, StandsAt, IsMadeUpOf, IsOutcomeOf}
 use Rattle.find_salvo.specs.Salvos.{IsSalvoOutcome, salvo_of}

@@ -82,7 +82,7 @@ impl<'a> SalvoHits<'a> {
         outcome_of(alloc, self.hand, left_by(self.hand.cells(), &self.hits))
     }
 
-    // Keeps the hits of the first lanes of a list, as far as they are those of the kept hits, and answers how many.
+    /// Keeps the hits of the first lanes of a list, as far as they are those of the kept hits, and answers how many.
     fn keep_shared(&mut self, lanes: &[i64]) -> usize
         ensures hand { self.new.hand ≡ self.old.hand }
         ensures within { result ≤ length lanes.now }
@@ -97,7 +97,7 @@ impl<'a> SalvoHits<'a> {
         shared
     }
 
-    // Whether a glider of one lane more has a hit, which is then kept.
+    /// Whether a glider of one lane more has a hit, which is then kept.
     fn strike<L: Ledger>(
         &mut self,
         alloc: Global,
@@ -131,7 +131,7 @@ impl<'a> SalvoHits<'a> {
     }
 }
 
-// The hit of a glider of a lane with what is left; None exactly where it has none.
+/// The hit of a glider of a lane with what is left; None exactly where it has none.
 fn hit_of<L: Ledger>(
     alloc: Global,
     left: &CellSet,
@@ -153,7 +153,7 @@ fn hit_of<L: Ledger>(
     }
 }
 
-// How many of the first lanes of a list are those of the first hits, one by one.
+/// How many of the first lanes of a list are those of the first hits, one by one.
 fn shared_lanes(hits: &[Hit], lanes: &[i64]) -> usize
     ensures hits { result ≤ length hits.now }
     ensures lanes { result ≤ length lanes.now }

@@ -1,5 +1,5 @@
 -- What a look-up in a list answers, and what an answer says that is known.
-use Rattle.std.specs.Prelude.{◌≡◌, ℕ, zero, suc, ◌≤◌, List, [], ◌∷◌, length, Option, Some, None, IfSome, IfNone}
+use Rattle.std.specs.Prelude.{◌≡◌, ℕ, zero, suc, ◌≤◌, List, [], ◌∷◌, length, Option, Some, None, IfSome, IfNone, Bool, true, false, IsTrue, ◌↔◌}
 use Rattle.std.specs.Borrow.{Bor}
 use Rattle.std.specs.List.{slice_get}
 use Rattle.std.specs.Option.{option_copied}
@@ -25,3 +25,8 @@ when_none {X} P o is h = let R : Option X → Type 0 = λ p. IfNone p P in subst
 -- an answer that is some says what is said of it
 pub when_some : {X : Type 0} (P : X → Type 0) (o : Option X) (x : X) → o ≡ Some x → IfSome o P → P x
 when_some {X} P o x is h = let R : Option X → Type 0 = λ p. IfSome p P in let there : IfSome (Some x) P = subst R is h in there
+
+-- what a failed test decides against
+pub not_if_false : (b : Bool) (P : Type 0) → b ≡ false → IsTrue b ↔ P → P → ⊥
+not_if_false true P is h p = cc
+not_if_false false P is h p = let yes = h.1 p in cc

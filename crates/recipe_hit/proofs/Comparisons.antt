@@ -25,8 +25,3 @@ test_decides a b x y P ea eb from to = (
 -- a side of a box of cells, moved out by 8,192, keeps 64 bits
 pub beyond_kept : (z : ℤ) → neg_ℤ (pos (2 ^ 40)) ≤ℤ z → z ≤ℤ pos (2 ^ 40) → to_z w64 (of_z w64 (to_z w64 (of_z w64 z) +ℤ BEYOND)) ≡ z +ℤ BEYOND
 beyond_kept z low high = omega (arith, ints)
-
--- what a failed test decides against
-pub not_if_false : (b : Bool) (P : Type 0) → b ≡ false → IsTrue b ↔ P → P → ⊥
-not_if_false true P is h p = cc
-not_if_false false P is h p = let yes = h.1 p in cc

@@ -1,6 +1,5 @@
 -- A hit from its parts, and that there is none.
-use Rattle.std.proofs.Common.{◌≡◌, ℕ, ◌≤◌, ℤ, pos, ◌*ℤ◌, inl, inr, refl, sym, ap, subst, ◌∙◌, arith}
-use Rattle.std.proofs.lemmas.Bool.{cases_lt}
+use Rattle.std.proofs.Common.{◌≡◌, ◌≤◌, ℤ, pos, ◌*ℤ◌, refl, sym, ap, subst, ◌∙◌}
 use Rattle.life_plane.specs.Plane.{Plane, run, IsStill, union}
 use Rattle.life_plane.specs.Salvo.{salvo_glider}
 use Rattle.life_cells.specs.declared.bounds.Bounds.{Bounds}
@@ -10,17 +9,11 @@ use Rattle.life_cells.specs.BoxLaws.{one_least_box}
 use Rattle.recipe_hit.specs.declared.hit.Hit.{Hit}
 use Rattle.recipe_hit.specs.declared.rest.Rest.{Rest}
 use Rattle.recipe_hit.specs.Strike.{first_quarter, hit_start, ever, ComesToRest, IsNear, IsHit}
+use Rattle.recipe_hit.specs.OneHitLaws.{one_rest}
 use Rattle.recipe_hit.specs.Rest.{IsRestOf, NeverRests}
 use Rattle.recipe_hit.specs.Refusals.{HasNoHit, HitIsRefused}
 use Rattle.recipe_hit.specs.declared.refusal.HitRefusal.TheVariants.{NotSettled}
 use Rattle.recipe_hit.specs.declared.limits.TheConstants.{LONGEST_HIT}
-
--- the first still generation is one
-pub one_rest : (s : Plane) (n m : ℕ) → ComesToRest s n → ComesToRest s m → n ≡ m
-one_rest s n m h k = elim (cases_lt n m) [
-  | inl lt ↦ absurd (k.first n lt h.still)
-  | inr ge ↦ elim (cases_lt m n) [ inl lt ↦ absurd (h.first m lt k.still) | inr le ↦ let same : n ≡ m = omega arith in same ]
-]
 
 -- what was evolved is the start of the hit
 pub start_of : (struck start : Plane) (box : Bounds) (kept lane quarter : ℤ) → start ≡ union struck (salvo_glider kept (pos 4 *ℤ quarter)) → kept ≡ lane → quarter ≡ first_quarter box kept →

@@ -4,9 +4,8 @@ pub mod SetBox
 pub mod Resting
 pub mod HitStarts
 pub mod Hitting
-pub mod OneHit
+pub mod OneRefusal
 pub mod Earlier
 pub mod Ends
-pub mod InTurn
 pub mod Missing
 pub mod OneSalvo

@@ -8,7 +8,7 @@ use Rattle.recipe_hit.specs.declared.refusal.SalvoRefusal.TheVariants.{Empty, No
 use Rattle.recipe_hit.specs.Strike.{IsHit}
 use Rattle.recipe_hit.specs.Sound.{AreHits, what_is_left}
 use Rattle.recipe_hit.specs.SalvoRefusals.{IsFirstMissing, LaneIsRefused, LanesAreRefused}
-use Rattle.recipe_hit.proofs.InTurn.{hits_more}
+use Rattle.recipe_hit.specs.InTurnLaws.{hits_more}
 
 missing_here : (start struck : Plane) (lanes : List ℤ) (hits : List Hit) (place number : ℕ) (d : ℤ) (Fails : Plane → ℤ → Type 0) → place < length lanes → AreHits start (take place lanes) hits →
     struck ≡ what_is_left start hits → number ≡ place + 1 → Fails struck (get_or lanes place d) → IsFirstMissing start lanes number Fails

@@ -14,21 +14,8 @@ use Rattle.recipe_hit.specs.Strike.{IsHit}
 use Rattle.recipe_hit.specs.Refusals.{HasNoHit}
 use Rattle.recipe_hit.specs.Sound.{AreHits, what_is_left, left_hand, IsSound}
 use Rattle.recipe_hit.specs.SalvoRefusals.{IsFirstMissing, HasLast, SalvoIsRefused}
-use Rattle.recipe_hit.proofs.OneHit.{one_hit, lives_not_nothing}
+use Rattle.recipe_hit.specs.OneHitLaws.{one_hit, lives_not_nothing, one_list}
 use Rattle.recipe_hit.proofs.Ends.{near_not_apart}
-
--- ---- one list of hits
-
-pub one_list : (start : Plane) (lanes : List ℤ) (hits others : List Hit) → AreHits start lanes hits → AreHits start lanes others → hits ≡ others
-one_list start [] [] [] h k = refl
-one_list start [] [] (b ∷ others) h k = absurd k
-one_list start [] (a ∷ hits) others h k = absurd h
-one_list start (lane ∷ lanes) [] others h k = absurd h
-one_list start (lane ∷ lanes) (a ∷ hits) [] h k = absurd k
-one_list start (lane ∷ lanes) (a ∷ hits) (b ∷ others) h k =
-    let first : a ≡ b = one_hit start lane a b h.0 k.0 in
-    let rest : hits ≡ others = one_list (alive b.after) lanes hits others (subst (λ (x : Hit). AreHits (alive x.after) lanes hits) first h.1) k.1 in
-    λ i. first i ∷ rest i
 
 -- what holds of what is left by one list and by another holds of one
 same_last : (start : Plane) (salvo : RawSalvo) (P : Plane → Type 0) (hits : List Hit) (h : HasLast start salvo P) → AreHits start salvo.lanes hits → P (what_is_left start hits)

@@ -9,3 +9,5 @@ pub mod FurtherBack
 pub mod Sound
 pub mod SalvoRefusals
 pub mod Checked
+pub mod OneHitLaws
+pub mod InTurnLaws

@@ -4,7 +4,7 @@ use Rattle.life_cells.specs.Cells.{alive}
 use Rattle.life_cells.specs.BoxLaws.{range_wider}
 use Rattle.life_cells.specs.PlaceLaws.{at_place, each_more}
 use Rattle.book_parts.specs.Limits.{farthest}
-use Rattle.recipe_hit.proofs.InTurn.{hand_range}
+use Rattle.recipe_hit.specs.InTurnLaws.{hand_range}
 use Rattle.find_salvo.specs.Outcomes.{StandsAt, IsFirstStand}
 use Rattle.find_salvo.proofs.Options.{when_some, when_none}
 use Rattle.find_salvo.proofs.Stands.{live_there, cell_in_range, hand_lives, place_from, stands_nowhere, is_first_stand}

@@ -4,7 +4,7 @@ use Rattle.life_cells.specs.Cells.{alive}
 use Rattle.life_cells.specs.BoxLaws.{range_wider}
 use Rattle.life_cells.specs.PlaceLaws.{at_place, live_at, each_more}
 use Rattle.book_parts.specs.Limits.{farthest}
-use Rattle.recipe_hit.proofs.InTurn.{hand_range}
+use Rattle.recipe_hit.specs.InTurnLaws.{hand_range}
 use Rattle.find_salvo.proofs.Stands.{cell_in_range, part_from_cells, not_part}
 use Rattle.find_salvo.proofs.standing.lies_in.Goals as goal
 

@@ -4,7 +4,7 @@ use Rattle.life_plane.specs.Apart.{Apart}
 use Rattle.life_cells.specs.Cells.{alive}
 use Rattle.life_islands.specs.Islands.{rest_of}
 use Rattle.recipe_hit.specs.Sound.{IsWhole}
-use Rattle.recipe_hit.proofs.Comparisons.{not_if_false}
+use Rattle.life_plane.specs.LookUpLaws.{not_if_false}
 use Rattle.find_salvo.specs.Outcomes.{hand_at}
 use Rattle.find_salvo.proofs.standing.rest_beside.Goals as goal
 

@@ -6,7 +6,7 @@ use Rattle.life_cells.specs.Laws.{alive-in_order, rising-in_order}
 use Rattle.life_cells.specs.FirstLaws.{first_place}
 use Rattle.life_cells.specs.PlaceLaws.{live_at, at_place, each_more}
 use Rattle.recipe_hit.proofs.Ends.{none_near}
-use Rattle.recipe_hit.proofs.Comparisons.{not_if_false}
+use Rattle.life_plane.specs.LookUpLaws.{not_if_false}
 use Rattle.recipe_hit.proofs.ending.first_near.Goals as goal
 
 pub returns-then-has_close : goal.returns-then-has_close

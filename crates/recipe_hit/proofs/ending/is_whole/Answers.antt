@@ -1,5 +1,6 @@
 use Rattle.recipe_hit.proofs.Ends.{whole_if_empty, whole_if_island}
-use Rattle.recipe_hit.proofs.Comparisons.{if_ok, not_if_false}
+use Rattle.life_plane.specs.LookUpLaws.{not_if_false}
+use Rattle.recipe_hit.proofs.Comparisons.{if_ok}
 use Rattle.recipe_hit.proofs.ending.is_whole.Goals as goal
 
 pub returns-then-is_empty : goal.returns-then-is_empty

@@ -1,5 +1,5 @@
 use Rattle.life_cells.specs.Cells.{alive}
-use Rattle.recipe_hit.proofs.InTurn.{left_last}
+use Rattle.recipe_hit.specs.InTurnLaws.{left_last}
 use Rattle.recipe_hit.proofs.in_turn.left_by.Goals as goal
 
 pub returns-in-Some : goal.returns-in-Some

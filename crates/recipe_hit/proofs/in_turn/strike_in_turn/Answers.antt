@@ -9,7 +9,7 @@ use Rattle.book_parts.specs.Limits.{IsCoordinate, farthest}
 use Rattle.recipe_hit.specs.declared.hit.Hit.{Hit}
 use Rattle.recipe_hit.specs.Sound.{AreHits, what_is_left}
 use Rattle.recipe_hit.specs.Checked.{AreSmallFrames}
-use Rattle.recipe_hit.proofs.InTurn.{left_is, small_after, range_after, hand_range}
+use Rattle.recipe_hit.specs.InTurnLaws.{left_is, small_after, range_after, hand_range}
 use Rattle.recipe_hit.proofs.Missing.{missed_here, turns_more}
 use Rattle.recipe_hit.proofs.in_turn.strike_in_turn.Goals as goal
 use Rattle.recipe_hit.specs.Strike.{beyond}

@@ -1,4 +1,4 @@
-use Rattle.recipe_hit.proofs.OneHit.{no_hand_refusal}
+use Rattle.recipe_hit.proofs.OneRefusal.{no_hand_refusal}
 use Rattle.recipe_hit.proofs.laws.hands_have_no_refusal.Goals as goal
 
 pub returns : goal.returns

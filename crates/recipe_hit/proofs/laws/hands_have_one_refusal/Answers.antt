@@ -1,4 +1,4 @@
-use Rattle.recipe_hit.proofs.OneHit.{one_hand_refusal}
+use Rattle.recipe_hit.proofs.OneRefusal.{one_hand_refusal}
 use Rattle.recipe_hit.proofs.laws.hands_have_one_refusal.Goals as goal
 
 pub returns : goal.returns

@@ -1,4 +1,4 @@
-use Rattle.recipe_hit.proofs.OneHit.{no_hit_refusal}
+use Rattle.recipe_hit.proofs.OneRefusal.{no_hit_refusal}
 use Rattle.recipe_hit.proofs.laws.hits_have_no_refusal.Goals as goal
 
 pub returns : goal.returns

@@ -1,4 +1,4 @@
-use Rattle.recipe_hit.proofs.OneHit.{one_hit}
+use Rattle.recipe_hit.specs.OneHitLaws.{one_hit}
 use Rattle.recipe_hit.proofs.laws.lanes_have_one_hit.Goals as goal
 
 pub returns : goal.returns

@@ -1,4 +1,4 @@
-use Rattle.recipe_hit.proofs.OneSalvo.{one_list}
+use Rattle.recipe_hit.specs.OneHitLaws.{one_list}
 use Rattle.recipe_hit.proofs.laws.salvos_have_one_list_of_hits.Goals as goal
 
 pub returns : goal.returns

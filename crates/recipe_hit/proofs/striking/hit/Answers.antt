@@ -3,7 +3,7 @@ use Rattle.std.proofs.lemmas.Int.{ints}
 use Rattle.life_cells.specs.Cells.{alive}
 use Rattle.life_cells.specs.Laws.{alive-empty}
 use Rattle.recipe_hit.specs.Rest.{NeverRests, IsRestOf}
-use Rattle.recipe_hit.proofs.Comparisons.{not_if_false}
+use Rattle.life_plane.specs.LookUpLaws.{not_if_false}
 use Rattle.recipe_hit.specs.Strike.{first_quarter}
 use Rattle.recipe_hit.proofs.SetBox.{box_of_set}
 use Rattle.recipe_hit.proofs.HitStarts.{start_in_range, least_with_glider}

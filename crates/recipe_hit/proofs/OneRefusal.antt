@@ -1,41 +1,16 @@
--- A lane has one hit, and a hit has one refusal.
-use Rattle.std.proofs.Common.{◌≡◌, ◌≢◌, ℤ, true, false, refl, sym, ap, subst, ◌∙◌}
-use Rattle.life_plane.specs.Plane.{Plane, run, nothing}
-use Rattle.life_cells.specs.Boxes.{IsLeastBox}
-use Rattle.life_cells.specs.BoxLaws.{one_least_box}
+-- A hit has one refusal, and so has a hand.
+use Rattle.std.proofs.Common.{◌≡◌, ◌≢◌, ℤ, refl, sym, ap, ◌∙◌}
+use Rattle.life_plane.specs.Plane.{Plane}
 use Rattle.life_cells.specs.FirstLaws.{one_first}
-use Rattle.life_cells.specs.Laws.{same_cells}
-use Rattle.book_parts.specs.Proper.{HasLife}
 use Rattle.recipe_hit.specs.declared.hit.Hit.{Hit}
 use Rattle.recipe_hit.specs.declared.refusal.HitRefusal.{HitRefusal}
 use Rattle.recipe_hit.specs.declared.refusal.HitRefusal.TheVariants as hit
 use Rattle.recipe_hit.specs.declared.refusal.HandRefusal.{HandRefusal}
 use Rattle.recipe_hit.specs.declared.refusal.HandRefusal.TheVariants as hand
-use Rattle.recipe_hit.specs.Strike.{first_quarter, hit_start, ever, ComesToRest, IsHit}
+use Rattle.recipe_hit.specs.Strike.{IsHit}
 use Rattle.recipe_hit.specs.Hands.{IsHand}
 use Rattle.recipe_hit.specs.Refusals.{HitIsRefused, HandIsRefused}
-use Rattle.recipe_hit.proofs.Hitting.{one_rest}
-
--- a lane has one hit
-pub one_hit : (struck : Plane) (lane : ℤ) (a b : Hit) → IsHit struck lane a → IsHit struck lane b → a ≡ b
-one_hit struck lane a b h k =
-    let box : h.box ≡ k.box = one_least_box struck h.box k.box h.box_is k.box_is in
-    let begins : hit_start struck h.box lane ≡ hit_start struck k.box lane = ap (λ x. hit_start struck x lane) box in
-    let start : a.frame.start ≡ b.frame.start = h.start_is ∙ ap (λ x. first_quarter x lane) box ∙ sym k.start_is in
-    let lanes : a.frame.lane ≡ b.frame.lane = h.lane_is ∙ sym k.lane_is in
-    let when : a.generations ≡ b.generations = one_rest (hit_start struck k.box lane) a.generations b.generations (subst (λ p. ComesToRest p a.generations) begins h.rests) k.rests in
-    let after : a.after ≡ b.after = same_cells a.after b.after (h.leaves ∙ ap (run a.generations) begins ∙ ap (λ n. run n (hit_start struck k.box lane)) when ∙ sym k.leaves) in
-    let kept : IsLeastBox a.frame.bounds (ever b.generations (hit_start struck k.box lane)) =
-    subst (λ n. IsLeastBox a.frame.bounds (ever n (hit_start struck k.box lane))) when (subst (λ p. IsLeastBox a.frame.bounds (ever a.generations p)) begins h.bounds) in
-    let bounds : a.frame.bounds ≡ b.frame.bounds = one_least_box _ a.frame.bounds b.frame.bounds kept k.bounds in
-    λ i. record { after = after i; generations = when i; frame = record { lane = lanes i; start = start i; bounds = bounds i } }
-
-true≢false : true ≢ false
-true≢false h = cc
-
--- what lives is not nothing
-pub lives_not_nothing : (s : Plane) → HasLife s → s ≡ nothing → ⊥
-lives_not_nothing s l e = true≢false (sym l.1.1 ∙ ap (λ (p : Plane). p l.0 l.1.0) e)
+use Rattle.recipe_hit.specs.OneHitLaws.{lives_not_nothing}
 
 -- where there is a hit it is not refused
 pub no_hit_refusal : (struck : Plane) (lane : ℤ) (h : Hit) (e : HitRefusal) → IsHit struck lane h → HitIsRefused struck lane e → e ≡ hit.Memory
