@@ -3,6 +3,7 @@ pub mod TimedTurns
 pub mod SceneTurns
 pub mod SceneTurnLaws
 pub mod Events
+pub mod Lane
 pub mod Least
 pub mod Clock
 pub mod Early

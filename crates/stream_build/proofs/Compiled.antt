@@ -1,5 +1,5 @@
 -- What is laid out is the pattern of the plan, and its n-th generation is the target.
-use Rattle.std.proofs.Common.{◌≡◌, ℕ, neg_ℤ, ◌-ℤ◌, List, Option, sym, ap, ◌∙◌, arith}
+use Rattle.std.proofs.Common.{◌≡◌, ℕ, neg_ℤ, ◌-ℤ◌, List, [], ◌∷◌, Option, sym, ap, ◌∙◌, arith}
 use Rattle.std.proofs.lemmas.Int.{ints}
 use Rattle.life_plane.specs.Plane.{Plane, union, shift, run, same_plane, IsStill}
 use Rattle.life_cells.specs.Cells.{alive}
@@ -9,7 +9,9 @@ use Rattle.book_parts.specs.Limits.{AreProper}
 use Rattle.book_parts.specs.declared.settings.Settings.{Settings}
 use Rattle.book_parts.specs.declared.kind.RawKind.{RawKind}
 use Rattle.recipe_book.specs.Checked.{CheckedEntries, IsCheckedBook}
+use Rattle.life_islands.specs.declared.island.Island.{Island}
 use Rattle.event_times.specs.Events as timed
+use Rattle.event_times.specs.Lane.{indices, IsOneLane}
 use Rattle.plan_facts.specs.Happenings.{Happening, events_of}
 use Rattle.plan_facts.specs.State.{hand_plane, first_hand}
 use Rattle.plan_facts.specs.Facts.{IsConstruction}
@@ -18,9 +20,11 @@ use Rattle.build_plan.specs.declared.plan.Plan.{Plan}
 use Rattle.build_plan.specs.declared.error.PlanError.TheVariants.{Memory}
 use Rattle.build_plan.specs.Happenings.{AllStandFor}
 use Rattle.build_plan.specs.Plan.{IsPlan}
+use Rattle.build_plan.specs.PlanHits.{HitsForIslands}
 use Rattle.build_plan.specs.Stops.{PlanStops}
 use Rattle.stream_build.specs.Built.{plan_pattern, IsBuilt}
 use Rattle.stream_build.specs.Laying.{laid}
+use Rattle.stream_build.specs.Parts.{IsHandFor, HasParts}
 use Rattle.stream_build.specs.declared.building.Built.{Built}
 
 -- there and back
@@ -67,3 +71,32 @@ built_exact book target built checked constructs valid build is =
 -- where there is a plan, want of memory is a stop all the same
 pub no_memory_stops : (book : CheckedEntries) (target : Plane) (plan : Plan) → IsPlan book target plan → PlanStops book target Memory
 no_memory_stops book target plan is = tt
+
+-- ---- the parts of the pattern
+
+abbrev pub OneLane : Type 0
+OneLane =
+    (settings : Settings) (kinds : List RawKind) (hand target : Plane) (start : ℕ) (first : Option Cell) (happenings : List Happening) → IsConstruction settings kinds start hand first happenings target →
+    timed.AreValidEvents settings timed.no_history (events_of happenings) → IsOneLane settings (events_of happenings)
+
+hand_for : (islands : List Island) (plan : Plan) → HitsForIslands islands plan → IsHandFor islands plan.first_hand
+hand_for [] plan h = h.0
+hand_for (island ∷ islands) plan h = h.0
+
+pub built_parts : (book : CheckedEntries) (target : Plane) (built : Built) (islands : List Island) → ((plan : Plan) → IsPlan book target plan → Constructs book target plan) → ((plan : Plan) → IsPlan book target plan → HitsForIslands islands plan) →
+    Valid → OneLane → IsBuilt book target built → HasParts book islands (alive built.pattern)
+built_parts book target built islands constructs hits valid lane is =
+    let plan = is.plan in
+    let c = constructs plan is.is_plan is.happenings is.in_time.stand in
+    let one = lane book.settings book.kinds (alive book.hand) (away plan target) book.start plan.first_hand is.happenings c (valid book.settings timed.no_history (events_of is.happenings) is.in_time.chosen) in
+    record {
+      first = plan.first_hand;
+      one_hand = hand_for islands plan (hits plan is.is_plan);
+      gliders = indices book.settings (events_of is.happenings);
+      in_line = one.in_line;
+      back = plan.back;
+      is =
+          is.pattern_is
+          ∙ (λ i. shift plan.back.x plan.back.y (union (kind_plane book.kinds book.start)
+          (union (hand_at_first book.settings book.kinds (alive book.hand) (away plan target) book.start plan.first_hand is.happenings c i) (one.stream i))));
+    }

@@ -1,3 +1,4 @@
 -- What a book builds for a target.
 pub mod Built
 pub mod Laying
+pub mod Parts

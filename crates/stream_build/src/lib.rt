@@ -5,7 +5,9 @@
 pub mod building;
 pub mod compiling;
 mod gliders;
+pub mod laws;
 mod pattern;
 
 pub use building::{Built, build};
 pub use compiling::compile;
+pub use laws::patterns_have_three_parts;
