@@ -29,13 +29,13 @@ not_closed : (settings : Settings) (kinds : List RawKind) (s : Plane) → HasLif
 not_closed settings kinds s lives closed = true≢false (sym lives.1.1 ∙ ap (λ (p : Plane). p lives.0 lives.1.0) closed.stands)
 
 -- where a turn ends with a throw, the glider is what is in front of the wall
-emit_beyond : (settings : Settings) (kinds : List RawKind) → AreValid settings kinds → (s : Plane) (kind : ℕ) (advance lane j : ℤ) → IsEnd settings kinds s (Emit kind advance lane j) →
+pub emit_beyond : (settings : Settings) (kinds : List RawKind) → AreValid settings kinds → (s : Plane) (kind : ℕ) (advance lane j : ℤ) → IsEnd settings kinds s (Emit kind advance lane j) →
     beyond settings.wall s ≡ salvo_glider lane j
 emit_beyond settings kinds valid s kind advance lane j h =
     ap (beyond settings.wall) h.stands ∙ thrown_is settings.wall (shift advance advance (kind_plane kinds kind)) (salvo_glider lane j) (moved_behind settings kinds valid kind advance) (λ x y live. thrown_beyond settings.wall lane j x y h.front live)
 
 -- and the kind is what isn't
-emit_behind : (settings : Settings) (kinds : List RawKind) → AreValid settings kinds → (s : Plane) (kind : ℕ) (advance lane j : ℤ) → IsEnd settings kinds s (Emit kind advance lane j) →
+pub emit_behind : (settings : Settings) (kinds : List RawKind) → AreValid settings kinds → (s : Plane) (kind : ℕ) (advance lane j : ℤ) → IsEnd settings kinds s (Emit kind advance lane j) →
     Stands kinds (behind settings.wall s) kind advance
 emit_behind settings kinds valid s kind advance lane j h = record {
   number_is = h.leads;
@@ -43,7 +43,7 @@ emit_behind settings kinds valid s kind advance lane j h = record {
 }
 
 -- where a glider is in front of the wall, no turn ends by a move
-move_unthrown : (settings : Settings) (kinds : List RawKind) → AreValid settings kinds → (s : Plane) (kind : ℕ) (advance lane j : ℤ) → beyond settings.wall s ≡ salvo_glider lane j →
+pub move_unthrown : (settings : Settings) (kinds : List RawKind) → AreValid settings kinds → (s : Plane) (kind : ℕ) (advance lane j : ℤ) → beyond settings.wall s ≡ salvo_glider lane j →
     IsEnd settings kinds s (Move kind advance) → ⊥
 move_unthrown settings kinds valid s kind advance lane j glider h =
     let there = front_lives settings.wall lane j s glider in

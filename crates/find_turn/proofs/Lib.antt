@@ -10,3 +10,4 @@ pub mod Tries
 pub mod BoxesTell
 pub mod Searching
 pub mod Soundness
+pub mod OneTurn

@@ -7,6 +7,7 @@ mod ending;
 pub mod finding;
 pub mod found_turn;
 mod front;
+pub mod laws;
 mod search;
 mod standing;
 mod tried;
