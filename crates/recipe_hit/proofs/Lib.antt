@@ -9,3 +9,5 @@ pub mod Earlier
 pub mod Ends
 pub mod Missing
 pub mod OneSalvo
+pub mod Sides
+pub mod Foremost

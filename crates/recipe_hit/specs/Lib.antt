@@ -5,6 +5,8 @@ pub mod SceneBoxes
 pub mod Hands
 pub mod Refusals
 pub mod Rest
+pub mod Endless
+pub mod FrontLaws
 pub mod FurtherBack
 pub mod Sound
 pub mod SalvoRefusals

@@ -5,16 +5,19 @@
 mod boxes;
 pub mod checked_salvo;
 pub mod ending;
+mod endless;
 pub mod frame;
 pub mod hand;
 pub mod hit;
 pub mod in_turn;
 pub mod laws;
+mod leading;
 pub mod limits;
 pub mod refusal;
 mod rest;
 mod soundness;
 pub mod striking;
+mod turned;
 
 pub use checked_salvo::{CheckedSalvo, check_salvo};
 pub use frame::HitFrame;

@@ -7,6 +7,7 @@ ghost use Rattle.recipe_hit.specs.Rest.{IsRestOf, NeverRests};
 ghost use Rattle.recipe_hit.specs.declared.limits.TheConstants.{MOST_COUNTED};
 
 use crate::boxes::grown;
+use crate::endless::goes_on;
 use crate::limits::LONGEST_HIT;
 use life_cells::{Bounds, CellSet, NoMemory};
 use life_steps::Steps;
@@ -26,7 +27,7 @@ pub(crate) struct Rest {
 }
 
 /// How a pattern comes to rest, whose least box is given; None exactly where none of the generations from 0 to 4,096 is still. Each
-/// generation that is looked at is stepped once, and counted.
+/// generation that is looked at is stepped once, and counted; none is where it is seen that the pattern never rests.
 pub(crate) fn come_to_rest<L: Ledger>(
     alloc: Global,
     start: &CellSet,
@@ -43,7 +44,11 @@ pub(crate) fn come_to_rest<L: Ledger>(
     let mut tiles = Tiles::from_cells(alloc, start)?;
     tiles.reserve(tiles.tile_count().saturating_mul(9))?;
     let mut bounds = bounds;
+    let mut before = start.copy()?;
     for generation in 0..=LONGEST_HIT {
+        if goes_on(alloc, &tiles, generation, &mut before)? {
+            return Ok(None);
+        }
         if !tiles.step(steps)? {
             let after = tiles.to_cells()?;
             return Ok(Some(Rest {
