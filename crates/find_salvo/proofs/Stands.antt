@@ -10,10 +10,11 @@ use Rattle.life_cells.specs.Moved.{moved}
 use Rattle.life_cells.specs.MovedLaws.{cell_cmp-moved}
 use Rattle.life_cells.specs.PlaceLaws.{each_live}
 use Rattle.life_cells.specs.FirstLaws.{first_place}
-use Rattle.life_cells.specs.Laws.{rising-in_order, alive-in_order, listed_at_place, place_of_listed}
+use Rattle.life_cells.specs.Laws.{rising-in_order, alive-in_order, place_of_listed}
 use Rattle.life_cells.specs.Boxes.{IsInRange, IsCellInRange}
 use Rattle.book_parts.specs.Proper.{HasLife}
-use Rattle.find_salvo.specs.Parts.{IsPartOf}
+use Rattle.life_gliders.specs.Beyond.{IsPartOf}
+use Rattle.recipe_hit.specs.LiveCellLaws.{live_there, live_in_range}
 use Rattle.find_salvo.specs.Outcomes.{hand_at, StandsAt, StandsNowhere, IsFirstStand}
 
 true≢false : true ≢ false
@@ -27,15 +28,8 @@ back a b = omega (arith, ints)
 
 -- ---- cells by their places
 
--- what a set has at a place lives
-pub live_there : (s : Cells) (k : ℕ) (c : Cell) → slice_get (in_order s) k ≡ Some c → alive s c.x c.y ≡ true
-live_there s k c at_k = ap (λ (q : Plane). q c.x c.y) (alive-in_order s) ∙ listed_at_place (in_order s) k c at_k
-
--- and lies in its range
 pub cell_in_range : (n : ℕ) (s : Cells) (k : ℕ) (c : Cell) → IsInRange n (alive s) → slice_get (in_order s) k ≡ Some c → IsCellInRange n c
-cell_in_range n s k c range at_k =
-    let l = live_there s k c at_k in
-    record { x_low = range.x_low c.x c.y l; x_high = range.x_high c.x c.y l; y_low = range.y_low c.x c.y l; y_high = range.y_high c.x c.y l }
+cell_in_range n s k c range at_k = live_in_range n (alive s) c range (live_there s k c at_k)
 
 -- a hand has a first cell
 pub hand_lives : (s : Cells) → HasLife (alive s) → None ≡ slice_get (in_order s) 0 → ⊥

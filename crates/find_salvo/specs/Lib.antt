@@ -1,5 +1,4 @@
 -- What gliders at a hand build and where they leave it, found and not stated.
-pub mod Parts
 pub mod Outcomes
 pub mod Salvos
 pub mod OutcomeLaws

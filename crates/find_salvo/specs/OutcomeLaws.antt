@@ -14,7 +14,7 @@ use Rattle.life_islands.specs.Islands.{rest_of}
 use Rattle.recipe_hit.specs.declared.hit.Hit.{Hit}
 use Rattle.recipe_hit.specs.Sound.{what_is_left, left_hand, IsWhole, IsSoundSalvo}
 use Rattle.recipe_hit.specs.OneHitLaws.{one_list}
-use Rattle.find_salvo.specs.Parts.{IsPartOf}
+use Rattle.life_gliders.specs.Beyond.{IsPartOf}
 use Rattle.find_salvo.specs.Outcomes.{hand_at, beside_hand, StandsAt, IsMadeUpOf, IsOutcomeOf}
 use Rattle.find_salvo.specs.Salvos.{IsSalvoOutcome, salvo_of}
 use Rattle.find_salvo.specs.declared.outcome.Outcome.{Outcome}

@@ -9,7 +9,7 @@ use Rattle.life_cells.specs.Firsts.{IsFirstOf}
 use Rattle.life_cells.specs.declared.cell.Cell.{Cell}
 use Rattle.life_islands.specs.Islands.{rest_of}
 use Rattle.recipe_hit.specs.Sound.{IsWhole}
-use Rattle.find_salvo.specs.Parts.{IsPartOf}
+use Rattle.life_gliders.specs.Beyond.{IsPartOf}
 use Rattle.find_salvo.specs.declared.outcome.Outcome.{Outcome}
 
 -- the hand at a place, and what is left beside it there

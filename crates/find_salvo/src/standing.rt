@@ -5,7 +5,7 @@ ghost use Rattle.life_cells.specs.Boxes.{IsInRange, IsCellInRange};
 ghost use Rattle.life_cells.specs.Cells.{alive, cell};
 ghost use Rattle.life_islands.specs.Islands.{rest_of};
 ghost use Rattle.book_parts.specs.Proper.{IsProperHand};
-ghost use Rattle.find_salvo.specs.Parts.{IsPartOf};
+ghost use Rattle.life_gliders.specs.Beyond.{IsPartOf};
 ghost use Rattle.find_salvo.specs.Outcomes.{hand_at, beside_hand, StandsAt, StandsNowhere, IsFirstStand};
 
 use life_cells::{Cell, CellSet, NoMemory};

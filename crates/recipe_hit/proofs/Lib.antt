@@ -10,4 +10,4 @@ pub mod Ends
 pub mod Missing
 pub mod OneSalvo
 pub mod Sides
-pub mod Foremost
+pub mod Found

@@ -7,6 +7,7 @@ pub mod Refusals
 pub mod Rest
 pub mod Endless
 pub mod FrontLaws
+pub mod LiveCellLaws
 pub mod FurtherBack
 pub mod Sound
 pub mod SalvoRefusals

@@ -6,8 +6,9 @@ use Rattle.life_cells.specs.PlaceLaws.{at_place, each_more}
 use Rattle.book_parts.specs.Limits.{farthest}
 use Rattle.recipe_hit.specs.InTurnLaws.{hand_range}
 use Rattle.find_salvo.specs.Outcomes.{StandsAt, IsFirstStand}
+use Rattle.recipe_hit.specs.LiveCellLaws.{live_there}
 use Rattle.find_salvo.proofs.Options.{when_some, when_none}
-use Rattle.find_salvo.proofs.Stands.{live_there, cell_in_range, hand_lives, place_from, stands_nowhere, is_first_stand}
+use Rattle.find_salvo.proofs.Stands.{cell_in_range, hand_lives, place_from, stands_nowhere, is_first_stand}
 use Rattle.find_salvo.proofs.standing.first_stand.Goals as goal
 
 pub returns-in_default-clause-none : goal.returns-in_default-clause-none

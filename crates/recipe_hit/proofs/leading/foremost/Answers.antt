@@ -2,7 +2,7 @@ use Rattle.std.proofs.Common.{◌≡◌, ◌^◌, true, sym, subst}
 use Rattle.life_cells.specs.declared.cell.Cell.{Cell}
 use Rattle.life_cells.specs.Cells.{alive}
 use Rattle.life_cells.specs.PlaceLaws.{live_at}
-use Rattle.recipe_hit.proofs.Foremost.{live_there, live_in_range}
+use Rattle.recipe_hit.specs.LiveCellLaws.{live_there, live_in_range}
 use Rattle.recipe_hit.proofs.leading.foremost.Goals as goal
 use Rattle.recipe_hit.proofs.leading.foremost.Goals.{then-diagonal_of, else-diagonal_of}
 

@@ -4,7 +4,8 @@ use Rattle.life_cells.specs.Cells.{alive}
 use Rattle.life_plane.specs.Salvo.{salvo_glider}
 use Rattle.life_gliders.specs.Beyond.{beyond}
 use Rattle.recipe_hit.specs.FrontLaws.{led_never_still}
-use Rattle.recipe_hit.proofs.Foremost.{live_in_range, what_is}
+use Rattle.recipe_hit.specs.LiveCellLaws.{live_in_range}
+use Rattle.recipe_hit.proofs.Found.{what_is}
 use Rattle.recipe_hit.proofs.leading.leads.Goals as goal
 
 pub diagonal_of-wall-requires : goal.diagonal_of-wall-requires

@@ -6,7 +6,7 @@ use Rattle.life_cells.specs.Cells.{cell, alive}
 use Rattle.life_cells.specs.MovedLaws.{push_mapped}
 use Rattle.life_cells.specs.PlaceLaws.{live_at}
 use Rattle.recipe_hit.specs.Endless.{mirrored_cell}
-use Rattle.recipe_hit.proofs.Foremost.{live_in_range}
+use Rattle.recipe_hit.specs.LiveCellLaws.{live_in_range}
 use Rattle.recipe_hit.proofs.Sides.{alive_turned, mirrored_back}
 use Rattle.recipe_hit.proofs.turned.mirrored.Goals as goal
 

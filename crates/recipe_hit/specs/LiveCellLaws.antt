@@ -1,6 +1,5 @@
--- Cells of a set by their places.
-use Rattle.std.proofs.Common.{◌≡◌, ℕ, true, Option, Some, None, ap, ◌∙◌}
-use Rattle.std.specs.Option.{is_some, IfSome}
+-- Live cells of a set: by their places, and in a range.
+use Rattle.std.proofs.Common.{◌≡◌, ℕ, true, Some, ap, ◌∙◌}
 use Rattle.std.specs.List.{slice_get}
 use Rattle.life_plane.specs.Plane.{Plane}
 use Rattle.life_cells.specs.declared.cell.Cell.{Cell}
@@ -15,8 +14,3 @@ live_there s k c at_k = ap (λ (q : Plane). q c.x c.y) (alive-in_order s) ∙ li
 -- what lives lies in the range
 pub live_in_range : (n : ℕ) (s : Plane) (c : Cell) → IsInRange n s → s c.x c.y ≡ true → IsCellInRange n c
 live_in_range n s c range l = record { x_low = range.x_low c.x c.y l; x_high = range.x_high c.x c.y l; y_low = range.y_low c.x c.y l; y_high = range.y_high c.x c.y l }
-
--- what there is, where there is something
-pub what_is : {X : Type 0} (o : Option X) (P : X → Type 0) → is_some o ≡ true → IfSome o P → (x : X) × P x
-what_is None P some h = cc
-what_is (Some x) P some h = (x, h)
