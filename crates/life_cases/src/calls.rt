@@ -9,6 +9,7 @@ use crate::runs::{Fails, run_life};
 use crate::sets::{show_inserts, show_pair, show_plain, show_set};
 use crate::texts::Texts;
 use crate::tracks::{show_boxes, show_found, show_glider, show_split, show_strip};
+use crate::words::show_command;
 use life_cells::NoMemory;
 use life_steps::Steps;
 use std::alloc::Global;
@@ -41,6 +42,7 @@ pub fn call<L: Ledger>(
             run_life(alloc, texts, fails, words, report, steps)?;
             Ok(true)
         }
+        "command" => show_command(alloc, words, report),
         "set" => show_set(alloc, words, report),
         "glider" => show_glider(alloc, words, report),
         "boxes" => show_boxes(alloc, words, report),

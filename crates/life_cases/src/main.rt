@@ -17,6 +17,7 @@ mod sets;
 mod show;
 mod texts;
 mod tracks;
+mod words;
 
 use cases::Cases;
 use life_cells::NoMemory;

@@ -7,8 +7,6 @@ pub mod laws;
 pub mod number;
 pub mod read;
 pub mod refusal;
-#[cfg(test)]
-mod tests;
 mod values;
 pub mod word;
 
