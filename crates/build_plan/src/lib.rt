@@ -12,7 +12,7 @@ mod finding;
 mod fitting;
 mod hands;
 pub mod laws;
-mod numbered;
+pub mod numbered;
 pub mod placing;
 pub mod plan;
 mod planner;

@@ -64,6 +64,14 @@ pub record HitIsAdded (frame : HitFrame) (generations : ℕ) (old new : Clock) :
   pub sent : new.sent ≡ old.sent
   pub hits : AddsHit old.sent frame generations old.hits.items new.hits.items
 
+-- nothing was added
+pub record IsSameClock (old new : Clock) : Type 0 where
+  pub starts : new.starts.items ≡ old.starts.items
+  pub hits : new.hits.items ≡ old.hits.items
+  pub over : new.over ≡ old.over
+  pub before : new.before ≡ old.before
+  pub sent : new.sent ≡ old.sent
+
 -- ---- what the clock shows
 
 abbrev pub time_of : Option Timed → Option TurnTime

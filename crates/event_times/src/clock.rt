@@ -1,13 +1,13 @@
 //! Turns and hits in time, one after the other.
 
-ghost use Rattle.std.specs.Prelude.{◌≡◌, ℕ, ◌≤◌, pos, ◌*ℤ◌, ◌≤ℤ◌, [], length, take, drop, IfOk, OnOk};
+ghost use Rattle.std.specs.Prelude.{◌≡◌, ℕ, ◌≤◌, pos, ◌*ℤ◌, ◌≤ℤ◌, [], length, take, drop, IfOk, OnOk, OnErr};
 ghost use Rattle.book_parts.specs.Limits.{IsFrom};
 ghost use Rattle.book_parts.specs.Proper.{IsProperEnd, IsProperTurn};
 ghost use Rattle.book_parts.specs.declared.limits.TheConstants.{MOST_GLIDERS, GREATEST_REACH};
 ghost use Rattle.event_times.specs.TimedTurns.{advance_of};
 ghost use Rattle.event_times.specs.Events.{hit_end, no_history};
 ghost use Rattle.event_times.specs.Least.{AreNear, IsLeastOf, thrown_of};
-ghost use Rattle.event_times.specs.Clock.{emission_of, sent_after, AreOver, IsKept, TurnIsAdded, HitIsAdded, Shows, ends_of, n_of};
+ghost use Rattle.event_times.specs.Clock.{emission_of, sent_after, AreOver, IsKept, TurnIsAdded, HitIsAdded, IsSameClock, Shows, ends_of, n_of};
 ghost use Rattle.event_times.specs.Early.{IsNearShift, IsEarly, IsEarlySent, IsEarlyFrame, latest_end};
 
 use crate::least::{Emission, HitTime, Sent, TurnTime, least_start};
@@ -92,6 +92,9 @@ fn sent_after(emits: Option<Emission>, end: u64, before: Option<Sent>) -> Option
 }
 
 /// Adds a turn, started as early as it may.
+///
+/// # Errors
+/// `NoMemory` for want of memory; then the clock is as before.
 pub fn add_turn(clock: &mut Clock, reach: i64, turn: &RawTurn, shift: i64) -> Result<(), NoMemory>
     requires reach { IsFrom (pos 0) GREATEST_REACH reach }
     requires turn { (kinds : ℕ) × IsProperTurn kinds turn.now }
@@ -99,7 +102,8 @@ pub fn add_turn(clock: &mut Clock, reach: i64, turn: &RawTurn, shift: i64) -> Re
     requires kept { IsKept clock.old }
     requires early { IsEarly (length clock.old.starts.items) clock.old }
     requires few { length clock.old.starts.items ≤ MOST_GLIDERS }
-    ensures { OnOk result (TurnIsAdded reach turn.now shift clock.old clock.new) }
+    ensures added { OnOk result (TurnIsAdded reach turn.now shift clock.old clock.new) }
+    ensures err { OnErr result (IsSameClock clock.old clock.new) }
 {
     let emits = emission_of(turn.end, shift);
     let start = start_after(clock, reach, turn.n, emits);
@@ -125,11 +129,15 @@ fn end_of_hit(sent: Sent, frame: HitFrame, generations: u32) -> u64
 }
 
 /// Adds the hit of the glider thrown last.
+///
+/// # Errors
+/// `NoMemory` for want of memory; then the clock is as before.
 pub fn add_hit(clock: &mut Clock, frame: HitFrame, generations: u32) -> Result<(), NoMemory>
     requires sent { IsEarlySent latest_end clock.old.sent }
     requires frame { IsEarlyFrame frame }
     requires comes { (sent : Sent) → clock.old.sent ≡ Some sent → sent.glider.j ≤ℤ (pos 4 *ℤ frame.start) }
-    ensures { OnOk result (HitIsAdded frame generations clock.old clock.new) }
+    ensures added { OnOk result (HitIsAdded frame generations clock.old clock.new) }
+    ensures err { OnErr result (IsSameClock clock.old clock.new) }
 {
     match clock.sent {
         None => Ok(()),

@@ -15,11 +15,11 @@ ghost use Rattle.stream_time.specs.NearEvents.{AreNearEvents, IsNearPlace, IsNea
 ghost use Rattle.stream_build.specs.Laying.{AreStarted, laid};
 
 use crate::gliders::push_turn;
+use build_plan::numbered::turn_at;
 use build_plan::{Event, Plan};
 use life_cells::{Cell, CellSet, NoMemory};
 use recipe_book::CheckedBook;
 use std::alloc::Global;
-use stream_time::turn_with;
 
 /// The cells of the gliders of a plan's turns, which start in these generations.
 fn stream_cells(
@@ -40,7 +40,7 @@ fn stream_cells(
     for event in events {
         match *event {
             Event::Turn { turn, shift } => {
-                let turn = turn_with(book.turns(), turn);
+                let turn = turn_at(book.turns(), turn);
                 push_turn(&mut cells, settings, turn, shift, starts[started])?;
                 started += 1;
             }

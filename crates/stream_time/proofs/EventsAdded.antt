@@ -6,7 +6,7 @@ use Rattle.std.proofs.lemmas.Int.{ints}
 use Rattle.std.proofs.lemmas.Bool.{cases_lt}
 use Rattle.std.proofs.lemmas.List.{take_more, take_all, reverse-append}
 use Rattle.std.proofs.Math.Seq.{drop-cons}
-use Rattle.life_plane.specs.ListLaws.{all_push}
+use Rattle.life_plane.specs.ListLaws.{all_push, same_item}
 use Rattle.life_plane.specs.Plane.{Plane, shift}
 use Rattle.life_scene.specs.ElbowLaws.{throw_reach}
 use Rattle.life_scene.specs.ClearanceLaws.{glider_before}
@@ -63,6 +63,10 @@ use Rattle.stream_time.specs.declared.times.Schedule.{Schedule}
 use Rattle.elbow_graph.specs.NumberedLaws.{of_number}
 use Rattle.stream_time.proofs.Places.{short_hits}
 use Rattle.stream_time.specs.Adding.{IsHitThere, GliderComes, EventIsAdded}
+
+-- there is none
+none_is : {P : Type 0} (x : ℤ) → None ≡ Some x → P
+none_is x e = cc
 
 -- ---- one more behind the others
 
@@ -355,14 +359,11 @@ module _ (book : CheckedEntries) (checked : IsCheckedBook book) (events : List E
           on_time = subst AreEarlyStarts (sym added.starts) s.on_time;
           state = after_hit s.state h;
           later_may = λ hs stand. (may_here (Hits h ∷ hs) (hit_stands, stand)).1;
-          waits = λ lane w. absurd (none_waits lane w);
+          waits = λ lane w. none_is lane w;
           own = own_here.1;
           near = near_here.1;
           few = let f = subst (λ (e : Event). length clock.starts.items + turns_left (e ∷ behind) ≤ MOST_GLIDERS) is few_here in omega arith;
         }
-      where
-        none_waits : (lane : ℤ) → None ≡ Some lane → ⊥
-        none_waits lane e = cc
 
   -- ---- whichever it is
 
@@ -417,26 +418,17 @@ so_far_begins book checked events state clock shows none early idle may own near
       on_time = subst AreEarlyStarts (sym none) tt;
       state = state;
       later_may = may;
-      waits = λ lane w. absurd (never lane (sym idle ∙ w));
+      waits = λ lane w. none_is lane (sym idle ∙ w);
       own = own;
       near = near;
       few = omega arith;
     }
-  where
-    never : (lane : ℤ) → None ≡ Some lane → ⊥
-    never lane e = cc
 
 -- the end of the last turn
 turns_are : (past : History) (last : ℕ) (es : List timed.Event) → last ≡ turn_end_of (time_of past.past.turn) → timed.turns_end last es ≡ turn_end_of (time_of (history_of past es).past.turn)
 turns_are past last [] is = is
 turns_are past last (timed.Event.Turn m ∷ es) is = turns_are (history_after past (timed.Event.Turn m)) (end m) es refl
 turns_are past last (timed.Event.Hit h ∷ es) is = turns_are (history_after past (timed.Event.Hit h)) last es is
-
-some_same : {x y : ℤ} → Some x ≡ Some y → y ≡ x
-some_same e = cc
-
-none_is : {P : Type 0} (x : ℤ) → None ≡ Some x → P
-none_is x e = cc
 
 number_is : (es : List timed.Event) (time : ℕ) (turned : List HitTime) → timed.turns_end 0 es ≡ time → timed.hits_end es ≡ timed.last_end_of (map been turned) → IsNumber es (later_of time (ends_of turned))
 number_is es time [] turns hits = record { turns = omega arith; hits = λ last h. none_is last (sym hits ∙ h); least = inl (sym turns) }
@@ -445,12 +437,12 @@ number_is es time (hit ∷ more) turns hits = by (cases_lt time hit.end)
     by : (time < hit.end) ⊎ (hit.end ≤ time) → IsNumber es (max time hit.end)
     by (inl lt) = record {
       turns = omega arith;
-      hits = λ last h. (let same = some_same (sym hits ∙ h) in omega (arith, ints));
+      hits = λ last h. (let same = same_item h hits in omega (arith, ints));
       least = inr (pos hit.end, (hits, (let e : max time hit.end ≡ hit.end = omega arith in ap pos e)));
     }
     by (inr le) = record {
       turns = omega arith;
-      hits = λ last h. (let same = some_same (sym hits ∙ h) in omega (arith, ints));
+      hits = λ last h. (let same = same_item h hits in omega (arith, ints));
       least = inl (let e : max time hit.end ≡ time = omega arith in e ∙ sym turns);
     }
 

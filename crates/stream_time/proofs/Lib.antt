@@ -1,4 +1,3 @@
 -- Lemmas on schedules.
-pub mod Numbers
 pub mod Places
 pub mod EventsAdded

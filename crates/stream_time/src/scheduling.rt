@@ -11,9 +11,10 @@ ghost use Rattle.stream_time.specs.NearEvents.{IsNearEvent};
 ghost use Rattle.stream_time.specs.Adding.{GliderComes, EventIsAdded};
 ghost use Rattle.stream_time.specs.InTime.{AreEarlyStarts, IsSchedule};
 
-use crate::entries::{hit_at, turn_with};
+use crate::entries::hit_at;
 use crate::times::Schedule;
 use build_plan::laws::{plans_are_of_their_book, plans_construct};
+use build_plan::numbered::turn_at;
 use build_plan::{Event, Plan, Target};
 use event_times::{Clock, add_hit, add_turn};
 use lane_clear::moved_frame;
@@ -34,7 +35,7 @@ fn add_event(clock: &mut Clock, book: &CheckedBook, event: Event) -> Result<(), 
     let reach = book.settings().reach;
     match event {
         Event::Turn { turn, shift } => {
-            add_turn(clock, reach, turn_with(book.turns(), turn), shift)
+            add_turn(clock, reach, turn_at(book.turns(), turn), shift)
         }
         Event::Hit { salvo, place, at } => {
             let hit = hit_at(book.salvos(), salvo, place);

@@ -22,5 +22,5 @@ pub returns : goal.returns
 returns c = record {
   turn = subst (IsNumbered (raws c.args.turns.now) c.args.number) (sym (c.raw.ensures.raw ∙ ap (λ (t : Checked). t.raw) c.index-turns-number.is))
       (turn_there c.args.turns.now c.args.number _ (turn_within c.args.turns.now c.args.number c.requires.numbered.0 c.requires.numbered.1));
-  delays = subst (λ (t : RawTurn). length t.delays ≤ MOST_DELAYS) (sym c.raw.ensures.raw) c.raw.ensures.checked.proper.few;
+  proper = (c.index-turns-number.result.kinds, rw c.raw.ensures.raw c.raw.ensures.checked.proper);
 }

@@ -38,8 +38,8 @@ over_by-clock-requires-clause-over c =
     subst (λ (hits : List HitTime). AreOver (c.start_after-start.result + c.from.result) (take c.args.clock.now.over hits)) (sym c.deref.ensures.value)
     (still_over c.args.clock.now.before (take c.args.clock.now.over c.args.clock.now.hits.items) c.start_after-start.result c.from.result c.requires.kept.past c.start_after-start.ensures.may.behind_turn)
 
-pub returns : goal.returns
-returns c =
+pub returns-clause-added : goal.returns-clause-added
+returns-clause-added c =
     let reach_is : to_z w64 (of_z w64 c.args.reach) ≡ c.args.reach = omega (arith, ints) in
     let shift_is : to_z w64 (of_z w64 c.args.shift) ≡ c.args.shift = omega (arith, ints) in
     let emits_is = c.emission_of-emits.ensures ∙ ap (emission_of c.args.turn.now.end) shift_is in

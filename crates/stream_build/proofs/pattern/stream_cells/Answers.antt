@@ -53,17 +53,17 @@ loop-event-preserved c whole started =
           let shift_is : to_z w64 (of_z w64 w.in-Turn.shift) ≡ w.in-Turn.shift = omega (arith, ints) in
           subst (λ (n : ℕ). IsLaid c.args.book.now c.args.events.now c.args.starts.now whole (c.loop-event.event-index + 1) n c.match-event.cells.items) (sym w.started-is)
           (turn_laid c.args.book.now c.args.events.now c.args.starts.now whole c.loop-event.event-index c.loop-event.started c.loop-event.cells.items s c.loop-event-test.true (Turn 0 (pos 0)) w.in-Turn.turn w.in-Turn.shift w.in-Turn.is
-          c.match-event.cells.items w.turn_with-turn.result.now 0 (subst (λ (ts : List Checked). IsNumbered (raws ts) w.in-Turn.turn w.turn_with-turn.result.now) w.turns.ensures w.turn_with-turn.ensures.turn)
+          c.match-event.cells.items w.turn_at-turn.result.now 0 (subst (λ (ts : List Checked). IsNumbered (raws ts) w.in-Turn.turn w.turn_at-turn.result.now) w.turns.ensures w.turn_at-turn.ensures.turn)
           (ap (λ (v : Vec Cell Global). listed v.items) w.cells-is ∙ w.in_ok-push_turn-in-Turn.ensures
-          ∙ (λ i. union (listed c.loop-event.cells.items) (turn_gliders (c.settings-settings.ensures.settings i) (record { turn = w.turn_with-turn.result.now; shift = shift_is i; start = get_or c.args.starts.now c.loop-event.started 0 })))))
+          ∙ (λ i. union (listed c.loop-event.cells.items) (turn_gliders (c.settings-settings.ensures.settings i) (record { turn = w.turn_at-turn.result.now; shift = shift_is i; start = get_or c.args.starts.now c.loop-event.started 0 })))))
       | in-Hit w ↦
           subst (λ (n : ℕ). IsLaid c.args.book.now c.args.events.now c.args.starts.now whole (c.loop-event.event-index + 1) n c.match-event.cells.items) (sym w.started-is)
           (subst (λ (v : Vec Cell Global). IsLaid c.args.book.now c.args.events.now c.args.starts.now whole (c.loop-event.event-index + 1) c.loop-event.started v.items) (sym w.cells-is)
           (hit_laid c.args.book.now c.args.events.now c.args.starts.now whole c.loop-event.event-index c.loop-event.started c.loop-event.cells.items s c.loop-event-test.true (Turn 0 (pos 0)) w.in-Hit.salvo w.in-Hit.place w.in-Hit.at w.in-Hit.is))
     ]
 
-pub turn_with-turn-requires-clause-numbered : goal.turn_with-turn-requires-clause-numbered
-turn_with-turn-requires-clause-numbered c =
+pub turn_at-turn-requires-clause-numbered : goal.turn_at-turn-requires-clause-numbered
+turn_at-turn-requires-clause-numbered c =
     subst (λ (ts : List Checked). (x : RawTurn) × IsNumbered (raws ts) c.in-Turn.turn x) (sym c.turns.ensures)
     (some_turn c.args.book.now c.args.events.now c.args.starts.now c.requires.started.0 c.loop-event.event-index c.loop-event.started c.loop-event.cells.items (c.loop-event.invariant c.requires.started.0 c.requires.started.1)
     c.loop-event-test.true (Turn 0 (pos 0)) c.in-Turn.turn c.in-Turn.shift c.in-Turn.is)

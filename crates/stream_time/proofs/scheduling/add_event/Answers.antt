@@ -61,4 +61,4 @@ returns-in-Hit c =
         there c.args.book.now c.args.event c.in-Hit.salvo c.in-Hit.place c.in-Hit.at c.salvos.result.now c.hit_at-hit.result.now c.in-Hit.is c.salvos.ensures c.requires.own c.hit_at-hit.ensures,
         subst (λ (f : HitFrame). HitIsAdded f c.hit_at-hit.result.now.generations c.args.clock.now c.add_hit.new.clock) c.moved_frame.ensures.moved added,
       ),
-    )) c.add_hit.ensures
+    )) c.add_hit.ensures.added
