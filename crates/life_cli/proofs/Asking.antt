@@ -9,21 +9,24 @@ use Rattle.std.proofs.lemmas.Bool.{false_from_ne_true}
 use Rattle.std.proofs.lemmas.Slice.Eq.{bytes_eq-Decides}
 use Rattle.life_cli.specs.declared.words.WordsError.{WordsError}
 use Rattle.life_cli.specs.declared.words.WordsError.TheVariants.{NoCommand, Dash, UnknownCommand, WrongCount, BadNumber}
-use Rattle.life_cli.specs.Words.{Words, Number, Usage, check, compile, replay, generations, usage_of, texts_of, first_dash, BeginWith, AreOf, AreUnknown, AreMiscounted, AreMisnumbered, IsFirstMisspelt, AreRefused}
+use Rattle.life_cli.specs.Words.{Words, Number, Usage, check, extend, compile, replay, budget, generations, usage_of, texts_of, first_dash, BeginWith, AreOf, AreUnknown, AreMiscounted, AreMisnumbered, IsFirstMisspelt, AreRefused}
 use Rattle.life_cli.specs.Requests.{Request, Ask, AreWordsOf}
-use Rattle.life_cli.specs.Requests.Request.{Check, Compile, Replay}
+use Rattle.life_cli.specs.Requests.Request.{Check, Extend, Compile, Replay}
 
 -- ---- one request
 
 -- the request of these words, by their number and the first of them
 abbrev request_in : List (List ℕ) → Option Request
 request_in (first ∷ (a ∷ [])) = cond (bytes_eq first (codes "check")) (Some (Check a)) None
-request_in (first ∷ (a ∷ (b ∷ []))) = cond (bytes_eq first (codes "compile")) (Some (Compile a b)) (cond (bytes_eq first (codes "replay")) (Some (Replay a (digits_value 10 b))) None)
+request_in (first ∷ (a ∷ (b ∷ []))) =
+    cond (bytes_eq first (codes "extend")) (Some (Extend a (digits_value 10 b)))
+    (cond (bytes_eq first (codes "compile")) (Some (Compile a b)) (cond (bytes_eq first (codes "replay")) (Some (Replay a (digits_value 10 b))) None))
 request_in other = None
 
 -- the words of a request have it
 read_back : (request : Request) (texts : List (List ℕ)) → AreWordsOf request texts → request_in texts ≡ Some request
 read_back (Check book) texts h = ap request_in h
+read_back (Extend book n) texts h = ap request_in h.1.0 ∙ ap (λ (m : ℕ). Some (Extend book m)) h.1.1.is
 read_back (Compile book target) texts h = ap request_in h
 read_back (Replay pattern n) texts h = ap request_in h.1.0 ∙ ap (λ (m : ℕ). Some (Replay pattern m)) h.1.1.is
 
@@ -44,6 +47,15 @@ record IsUsed (texts : List (List ℕ)) : Type 0 where
 
 used : (request : Request) (texts : List (List ℕ)) → AreWordsOf request texts → IsUsed texts
 used (Check book) texts h = record { first = codes "check"; rest = book ∷ []; whole = h; usage = check; known = refl; counted = refl; numbered = λ place none. none }
+used (Extend book n) texts h = record {
+  first = codes "extend";
+  rest = book ∷ (h.0 ∷ []);
+  whole = h.1.0;
+  usage = extend;
+  known = refl;
+  counted = refl;
+  numbered = λ place none. elim (subst (λ (ts : List (List ℕ)). IsFirstMisspelt ts (budget ∷ []) place) h.1.0 none) [ inl bad ↦ bad.0 (n, h.1.1) | inr more ↦ more.1 ];
+}
 used (Compile book target) texts h = record { first = codes "compile"; rest = book ∷ (target ∷ []); whole = h; usage = compile; known = refl; counted = refl; numbered = λ place none. none }
 used (Replay pattern n) texts h = record {
   first = codes "replay";
@@ -152,5 +164,5 @@ other_word : (first word : List ℕ) → (first ≡ word → ⊥) → bytes_eq w
 other_word first word other = let decides = bytes_eq-Decides word first in false_from_ne_true (bytes_eq word first) (λ e. other (sym (decides.0 e)))
 
 -- a word that is none of the commands is unknown
-pub no_command : (first : List ℕ) → (first ≡ codes "check" → ⊥) → (first ≡ codes "compile" → ⊥) → (first ≡ codes "replay" → ⊥) → usage_of first ≡ None
-no_command first a b c = rw (other_word first (codes "check") a, other_word first (codes "compile") b, other_word first (codes "replay") c)
+pub no_command : (first : List ℕ) → (first ≡ codes "check" → ⊥) → (first ≡ codes "extend" → ⊥) → (first ≡ codes "compile" → ⊥) → (first ≡ codes "replay" → ⊥) → usage_of first ≡ None
+no_command first a b c d = rw (other_word first (codes "check") a, other_word first (codes "extend") b, other_word first (codes "compile") c, other_word first (codes "replay") d)

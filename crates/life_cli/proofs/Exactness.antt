@@ -10,6 +10,8 @@ use Rattle.life_rle.specs.TextFaults.{IsFineText, TextStopsWith}
 use Rattle.life_rle.specs.declared.error.RleError as rle
 use Rattle.life_target.specs.Targets.{IsTarget, TargetIsRefused}
 use Rattle.life_target.specs.declared.refusal.TargetError as target
+use Rattle.std.specs.List.{AllByRecursion}
+use Rattle.book_parts.specs.Proper.{IsProperKind}
 use Rattle.book_parts.specs.declared.settings.Settings.{Settings}
 use Rattle.book_parts.specs.declared.limits.TheConstants.{WALL_MARGIN}
 use Rattle.book_parts.specs.declared.kind.RawKind.{RawKind}
@@ -18,7 +20,11 @@ use Rattle.book_text.specs.Book.{Said, Says, StopsWith}
 use Rattle.book_read.specs.declared.error.BookError as book
 use Rattle.recipe_turn.specs.Checked.{AreValid}
 use Rattle.elbow_graph.specs.States.{HasStates}
-use Rattle.recipe_book.specs.Checked.{CheckedEntries}
+use Rattle.recipe_book.specs.Checked.{CheckedEntries, said_of}
+use Rattle.recipe_find.specs.Extended.{IsExtended}
+use Rattle.recipe_find.specs.Refusals.{HasRoom, FindingIsRefused}
+use Rattle.recipe_find.specs.declared.error.FindError.{FindError}
+use Rattle.recipe_find.specs.declared.error.FindError.TheVariants as found
 use Rattle.book_parts.specs.declared.limits.TheConstants.{MOST_STATES}
 use Rattle.recipe_book.specs.Entries.{AreTheSound}
 use Rattle.recipe_book.specs.Refusals.{BookIsRefused}
@@ -30,12 +36,13 @@ use Rattle.build_plan.specs.Plan.{IsPlan}
 use Rattle.build_plan.specs.Stops.{PlanStops}
 use Rattle.life_cli.specs.declared.status.Which.{Which}
 use Rattle.life_cli.specs.declared.status.Status.{Status}
-use Rattle.life_cli.specs.declared.status.Status.TheVariants.{TooLong, BadRle, BadBookText, BadTarget, BadBook, NoPlan, StreamLong}
+use Rattle.life_cli.specs.declared.status.Status.TheVariants.{TooLong, BadRle, BadBookText, BadTarget, BadBook, NoPlan, StreamLong, BookFull}
 use Rattle.life_cli.specs.Requests.{Request}
-use Rattle.life_cli.specs.Requests.Request.{Check, Compile, Replay}
+use Rattle.life_cli.specs.Requests.Request.{Check, Extend, Compile, Replay}
 use Rattle.life_cli.specs.Exact.{IsExact, AreExact}
 use Rattle.life_cli.specs.Book.{ReadsAsBook, PassesTests, TestsRefuse}
 use Rattle.life_cli.specs.Inputs.{IsHeld, Holds, FetchRefuses, IsUnread, BookTextStops, ReadsAsPattern, PatternTextStops}
+use Rattle.life_cli.specs.Extended.{ComesTo, FinderRefuses}
 use Rattle.life_cli.specs.Compiled.{TargetRefuses, HasPlan, PlanRefuses}
 use Rattle.life_cli.specs.Run.{stages_of}
 use Rattle.life_cli.proofs.OneBook.{OneTurns, OneSalvos, OneHits, one_book}
@@ -54,6 +61,9 @@ pub record PartsAreExact : Type 0 where
   pub book_taken : (settings : Settings) (hand : Cells) (kinds : List RawKind) (start : ℕ) (turns sound : List RawTurn) (count : ℕ) (e : check.BookRefusal) →
       AreValid settings kinds → IsStill (alive hand) → AreTheSound settings kinds turns sound → HasStates sound start settings.span MOST_STATES count →
       BookIsRefused settings hand kinds start turns e → e ≡ check.TheVariants.Memory
+  pub one_whole : (book a b : Said) (budget : ℕ) → AllByRecursion IsProperKind book.kinds → AreValid book.settings book.kinds → IsExtended book budget a → IsExtended book budget b → a ≡ b
+  pub not_full : (book whole : Said) (budget : ℕ) (e : FindError) → AllByRecursion IsProperKind book.kinds → AreValid book.settings book.kinds → IsExtended book budget whole → HasRoom whole →
+      FindingIsRefused book budget e → e ≡ found.Memory
   pub no_stop : (book : CheckedEntries) (target : Plane) (plan : Plan) (e : PlanError) → IsPlan book target plan → PlanStops book target e → e ≡ stop.Memory
 
 -- ---- texts
@@ -121,11 +131,23 @@ plan_apart x book target (NoPlan (stop.NoClosing kind shift)) h r = let is = x.n
 plan_apart x book target (StreamLong count) h r = let is = x.no_stop book target h.0 (stop.StreamLong count) h.1 r in cc
 plan_apart x book target other h r = absurd r
 
+finder_is_exact : PartsAreExact → (book : CheckedEntries) (budget : ℕ) → IsExact Said (ComesTo book budget) (FinderRefuses book budget)
+finder_is_exact x book budget = record {
+  one = λ a b h k. x.one_whole (said_of book) a b budget h.kinds h.valid h.extended k.extended;
+  apart = λ whole status h r. apart whole status h r;
+}
+  where
+    apart : (whole : Said) (status : Status) → ComesTo book budget whole → FinderRefuses book budget status → ⊥
+    apart whole (BookFull what count) h r = let is = x.not_full (said_of book) whole budget (found.BookFull what count) h.kinds h.valid h.extended h.room r in cc
+    apart whole other h r = absurd r
+
 -- ---- requests
 
 pub requests_are_exact : PartsAreExact → (texts : List HeldText) (request : Request) → AreExact (stages_of (Some texts) request)
 requests_are_exact x texts (Check book) =
     (input_is_exact ReadsAsBook BookTextStops texts book _ (book_is_exact x), λ said. (tests_are_exact x said, λ checked. tt))
+requests_are_exact x texts (Extend book n) =
+    (input_is_exact ReadsAsBook BookTextStops texts book _ (book_is_exact x), λ said. (tests_are_exact x said, λ checked. (finder_is_exact x checked n, λ whole. tt)))
 requests_are_exact x texts (Compile book target) = (
   input_is_exact ReadsAsBook BookTextStops texts book _ (book_is_exact x),
   λ said. (

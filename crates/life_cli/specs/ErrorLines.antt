@@ -16,8 +16,9 @@ use Rattle.life_cli.specs.declared.status.Which.TheVariants.{Book, Target, Patte
 use Rattle.life_target.specs.declared.refusal.TargetError as target
 use Rattle.recipe_book.specs.declared.refusal.BookRefusal as check
 use Rattle.build_plan.specs.declared.error.PlanError as plan
+use Rattle.recipe_find.specs.declared.error.Full as full
 use Rattle.life_cli.specs.declared.status.Status.{Status}
-use Rattle.life_cli.specs.declared.status.Status.TheVariants.{Done, Words, ReadFault, TooLong, BadRle, BadBookText, BadTarget, BadBook, NoPlan, StreamLong, WriteFault, Memory}
+use Rattle.life_cli.specs.declared.status.Status.TheVariants.{Done, Words, ReadFault, TooLong, BadRle, BadBookText, BadTarget, BadBook, NoPlan, StreamLong, BookFull, WriteFault, Memory}
 
 abbrev pub which_text : Which → List ℕ
 which_text Book = codes "book"
@@ -87,6 +88,12 @@ plan_text (plan.TheVariants.NoClosing kind shift) = codes "no closing " ++ (deci
 plan_text (plan.TheVariants.StreamLong count) = codes "stream long " ++ decimal count
 plan_text plan.TheVariants.Memory = codes "memory"
 
+-- of what there are too many
+abbrev pub full_text : full.Full → List ℕ
+full_text full.TheVariants.Salvos = codes "salvos"
+full_text full.TheVariants.Turns = codes "turns"
+full_text full.TheVariants.Cells = codes "cells"
+
 -- the text of a status; Done and Memory have none
 abbrev pub status_text : Status → List ℕ
 status_text Done = []
@@ -99,6 +106,7 @@ status_text (BadTarget e) = codes "target " ++ target_text e
 status_text (BadBook e) = refusal_text e
 status_text (NoPlan e) = plan_text e
 status_text (StreamLong count) = codes "stream long " ++ decimal count
+status_text (BookFull what count) = codes "book full " ++ (full_text what ++ (codes " " ++ decimal count))
 status_text WriteFault = codes "write fault"
 status_text Memory = []
 

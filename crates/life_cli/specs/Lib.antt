@@ -5,6 +5,7 @@ pub mod Stages
 pub mod Exact
 pub mod Book
 pub mod Inputs
+pub mod Extended
 pub mod Compiled
 pub mod Replayed
 pub mod Verdicts

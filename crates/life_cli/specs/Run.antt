@@ -11,16 +11,18 @@ use Rattle.life_cli.specs.declared.status.Status.TheVariants.{Done, Words, ReadF
 use Rattle.life_cli.specs.Words as command
 use Rattle.life_cli.specs.Words.{AreRefused}
 use Rattle.life_cli.specs.Requests.{Request, Ask, names_of}
-use Rattle.life_cli.specs.Requests.Request.{Check, Compile, Replay}
+use Rattle.life_cli.specs.Requests.Request.{Check, Extend, Compile, Replay}
 use Rattle.life_cli.specs.Inputs.{Told}
 use Rattle.life_cli.specs.Stages.{Stages, Give, Refuse, CountWithin}
 use Rattle.life_cli.specs.Verdicts.{check}
+use Rattle.life_cli.specs.Extended.{extend}
 use Rattle.life_cli.specs.Compiled.{compile}
 use Rattle.life_cli.specs.Replayed.{replay}
 
 -- the stages of a request
 abbrev pub stages_of : Told → Request → Stages
 stages_of told (Check book) = check told book
+stages_of told (Extend book n) = extend told book n
 stages_of told (Compile book target) = compile told book target
 stages_of told (Replay pattern n) = replay told pattern n
 

@@ -1,7 +1,7 @@
 -- The numbers of the statuses.
 use Rattle.std.specs.Prelude.{ℕ}
 use Rattle.life_cli.specs.declared.status.Status.{Status}
-use Rattle.life_cli.specs.declared.status.Status.TheVariants.{Done, Words, ReadFault, TooLong, BadRle, BadBookText, BadTarget, BadBook, NoPlan, StreamLong, WriteFault, Memory}
+use Rattle.life_cli.specs.declared.status.Status.TheVariants.{Done, Words, ReadFault, TooLong, BadRle, BadBookText, BadTarget, BadBook, NoPlan, StreamLong, BookFull, WriteFault, Memory}
 
 abbrev pub number_of : Status → ℕ
 number_of Done = 0
@@ -14,5 +14,6 @@ number_of (BadTarget e) = 5
 number_of (BadBook e) = 6
 number_of (NoPlan e) = 7
 number_of (StreamLong count) = 8
+number_of (BookFull what count) = 10
 number_of WriteFault = 11
 number_of Memory = 12

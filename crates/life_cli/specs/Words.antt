@@ -53,12 +53,23 @@ pub record Usage : Type 0 where
   pub takes : ℕ
   pub numbers : List Number
 
+-- any number of 32 bits, behind the name of a text
+abbrev pub any_number : Number
+any_number = record { place = 3; digits = 10; least = 0; most = 2 ^ 32 - 1 }
+
+-- how many candidates of its finder a book is extended by
+abbrev pub budget : Number
+budget = any_number
+
 -- how many generations a pattern is replayed
 abbrev pub generations : Number
-generations = record { place = 3; digits = 10; least = 0; most = 2 ^ 32 - 1 }
+generations = any_number
 
 abbrev pub check : Usage
 check = record { command = codes "check"; takes = 1; numbers = [] }
+
+abbrev pub extend : Usage
+extend = record { command = codes "extend"; takes = 2; numbers = budget ∷ [] }
 
 abbrev pub compile : Usage
 compile = record { command = codes "compile"; takes = 2; numbers = [] }
@@ -67,7 +78,7 @@ abbrev pub replay : Usage
 replay = record { command = codes "replay"; takes = 2; numbers = generations ∷ [] }
 
 abbrev pub usages : List Usage
-usages = check ∷ (compile ∷ (replay ∷ []))
+usages = check ∷ (extend ∷ (compile ∷ (replay ∷ [])))
 
 -- the usage of the command of this word; none where it is no command
 abbrev pub usage_of : List ℕ → Option Usage

@@ -17,6 +17,7 @@ use build_plan::laws::plans_have_no_stop;
 use life_rle::laws::{fine_texts_have_no_refusal, texts_mean_one_plane};
 use life_target::laws::targets_have_no_refusal;
 use recipe_book::laws::{sound_salvos_are_one, sound_turns_are_one, taken_books_have_no_refusal};
+use recipe_find::laws::{books_with_room_are_not_refused, extended_books_are_one};
 use recipe_hit::laws::salvos_have_one_list_of_hits;
 
 /// Words ask for one request at most.
@@ -48,6 +49,8 @@ pub fn stages_are_exact()
     sound_salvos_are_one();
     salvos_have_one_list_of_hits();
     taken_books_have_no_refusal();
+    extended_books_are_one();
+    books_with_room_are_not_refused();
     plans_have_no_stop();
 }
 

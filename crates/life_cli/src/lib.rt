@@ -4,6 +4,7 @@
 mod books;
 mod checking;
 mod compiling;
+mod extending;
 mod fetch;
 mod inputs;
 pub mod laws;
@@ -19,6 +20,7 @@ mod writing;
 pub use build_plan::PlanError;
 pub use life_target::TargetError;
 pub use recipe_book::BookRefusal;
+pub use recipe_find::Full;
 pub use run::life_run;
 pub use status::{Status, Which};
 pub use words::{Command, WordsError, read_words};

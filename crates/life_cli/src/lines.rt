@@ -2,7 +2,7 @@
 
 ghost use Rattle.std.specs.Prelude.{◌≡◌, IfOk};
 ghost use Rattle.std.specs.String.{string_bytes};
-ghost use Rattle.life_cli.specs.ErrorLines.{which_text, words_text, rle_text, fault_text, book_text, target_text, refusal_text, plan_text, status_text, error_line};
+ghost use Rattle.life_cli.specs.ErrorLines.{which_text, words_text, rle_text, fault_text, book_text, target_text, refusal_text, plan_text, full_text, status_text, error_line};
 
 use crate::status::{Status, Which};
 use crate::words::WordsError;
@@ -11,6 +11,7 @@ use build_plan::PlanError;
 use life_rle::RleError;
 use life_target::TargetError;
 use recipe_book::BookRefusal;
+use recipe_find::Full;
 use std::alloc::{AllocError, Global};
 
 fn which_text(which: Which) -> &'static str
@@ -133,6 +134,16 @@ fn plan_text(alloc: Global, stop: PlanError) -> Result<String, AllocError>
     }
 }
 
+fn full_text(what: Full) -> &'static str
+    ensures { result.now ≡ full_text what }
+{
+    match what {
+        Full::Salvos => "salvos",
+        Full::Turns => "turns",
+        Full::Cells => "cells",
+    }
+}
+
 /// The text of a status; Done and Memory have none.
 fn status_text(alloc: Global, status: Status) -> Result<String, AllocError>
     ensures { IfOk result (λ text. string_bytes text ≡ status_text status) }
@@ -161,6 +172,10 @@ fn status_text(alloc: Global, status: Status) -> Result<String, AllocError>
         Status::BadBook(refusal) => refusal_text(alloc, refusal),
         Status::NoPlan(stop) => plan_text(alloc, stop),
         Status::StreamLong { count } => format!(in alloc; "stream long {count}"),
+        Status::BookFull { what, count } => {
+            let what = full_text(what);
+            format!(in alloc; "book full {what} {count}")
+        }
         Status::WriteFault => String::from_str(alloc, "write fault"),
     }
 }

@@ -8,6 +8,7 @@ ghost use Rattle.life_cli.specs.Run.{stages_of, AreHeld};
 
 use crate::checking::check;
 use crate::compiling::compile;
+use crate::extending::extend;
 use crate::replaying::replay;
 use crate::status::Status;
 use crate::words::Command;
@@ -33,6 +34,7 @@ pub(crate) fn answer<D: Depot, L: Ledger>(
 {
     match *command {
         Command::Check { book } => check(alloc, book, depot, steps),
+        Command::Extend { book, budget } => extend(alloc, book, budget, depot, steps),
         Command::Compile { book, target } => compile(alloc, book, target, depot, steps),
         Command::Replay {
             pattern,

@@ -11,6 +11,7 @@ use life_cells::NoMemory;
 use life_rle::RleError;
 use life_target::TargetError;
 use recipe_book::BookRefusal;
+use recipe_find::Full;
 use std::alloc::AllocError;
 
 /// Which text is meant.
@@ -55,6 +56,13 @@ pub enum Status {
         /// How many.
         count: u64,
     },
+    /// The book has no room for what was found.
+    BookFull {
+        /// The first of which there are too many, in the order salvos, turns, cells.
+        what: Full,
+        /// How many there are.
+        count: u64,
+    },
     /// The text was not put, or not all of it: the sink's count of faults rose.
     WriteFault,
     /// There was no memory.
@@ -76,6 +84,7 @@ impl Status {
             Status::BadBook(_) => 6,
             Status::NoPlan(_) => 7,
             Status::StreamLong { .. } => 8,
+            Status::BookFull { .. } => 10,
             Status::WriteFault => 11,
             Status::Memory => 12,
         }

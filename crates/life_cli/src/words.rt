@@ -1,15 +1,15 @@
 //! The words of the command line.
 
 ghost use Rattle.std.specs.Prelude.{◌≡◌, ◌≢◌, ℕ, List, ◌∷◌, [], length, IfOk, IfErr, IfSome, IfNone, IsTrue, ◌↔◌, codes};
-ghost use Rattle.life_cli.specs.Words.{AreRefused, BeginWith, Spells, generations, first_dash, has_dash, has_plus, texts_of};
+ghost use Rattle.life_cli.specs.Words.{AreRefused, BeginWith, Spells, any_number, first_dash, has_dash, has_plus, texts_of};
 ghost use Rattle.life_cli.specs.Requests.{Ask, request_of};
 
 use thiserror::Error;
 
-/// The place of the number of generations among the words of `replay`, counted from 1.
-const GENERATIONS_PLACE: usize = 3;
+/// The place of the number among the words of `extend` and of `replay`, counted from 1.
+const NUMBER_PLACE: usize = 3;
 
-/// The most digits of a number of generations.
+/// The most digits of a number.
 const MOST_DIGITS: usize = 10;
 
 /// Why the words are no command. Places count from 1.
@@ -31,7 +31,7 @@ pub enum WordsError {
     #[error("wrong number of words")]
     WrongCount,
     /// A word isn't a number within its limits.
-    #[error("word {place} is no number of generations")]
+    #[error("word {place} is no number from 0 to 2^32 - 1")]
     BadNumber {
         /// The word's place.
         place: usize,
@@ -45,6 +45,13 @@ pub enum Command<'a> {
     Check {
         /// The book's name.
         book: &'a str,
+    },
+    /// Extends a book by what its finder finds.
+    Extend {
+        /// The book's name.
+        book: &'a str,
+        /// How many candidates are tried.
+        budget: u32,
     },
     /// Compiles a target with a book.
     Compile {
@@ -118,10 +125,10 @@ fn has_plus(text: &[u8]) -> bool
     }
 }
 
-/// The number of generations that a word spells.
-fn generations_of(word: &str) -> Option<u32>
-    ensures some { IfSome result (λ n. Spells generations word.now n) }
-    ensures none { IfNone result ((n : ℕ) → Spells generations word.now n → ⊥) }
+/// The number of 32 bits that a word spells.
+fn number_of(word: &str) -> Option<u32>
+    ensures some { IfSome result (λ n. Spells any_number word.now n) }
+    ensures none { IfNone result ((n : ℕ) → Spells any_number word.now n → ⊥) }
 {
     if word.len() > MOST_DIGITS || has_plus(word.as_bytes()) {
         return None;
@@ -141,6 +148,23 @@ fn read_check(words: &[String]) -> Result<Command<'_>, WordsError>
     match one_behind(words) {
         Some(book) => Ok(Command::Check { book }),
         None => Err(WordsError::WrongCount),
+    }
+}
+
+/// The command `extend` of these words, the first of which names it.
+fn read_extend(words: &[String]) -> Result<Command<'_>, WordsError>
+    requires { (rest : List (List ℕ)) × BeginWith words.now (codes "extend") rest }
+    ensures ok { IfOk result (λ command. Ask words.now (request_of command)) }
+    ensures err { IfErr result (λ e. AreRefused words.now e) }
+{
+    let Some((book, number)) = two_behind(words) else {
+        return Err(WordsError::WrongCount);
+    };
+    match number_of(number) {
+        Some(budget) => Ok(Command::Extend { book, budget }),
+        None => Err(WordsError::BadNumber {
+            place: NUMBER_PLACE,
+        }),
     }
 }
 
@@ -165,22 +189,23 @@ fn read_replay(words: &[String]) -> Result<Command<'_>, WordsError>
     let Some((pattern, number)) = two_behind(words) else {
         return Err(WordsError::WrongCount);
     };
-    match generations_of(number) {
+    match number_of(number) {
         Some(generations) => Ok(Command::Replay {
             pattern,
             generations,
         }),
         None => Err(WordsError::BadNumber {
-            place: GENERATIONS_PLACE,
+            place: NUMBER_PLACE,
         }),
     }
 }
 
-/// The command that the words say: `check BOOK`, `compile BOOK TARGET` or `replay PATTERN N` (docs/FORMATS.md, "Command line").
+/// The command that the words say: `check BOOK`, `extend BOOK BUDGET`, `compile BOOK TARGET` or `replay PATTERN N` (docs/FORMATS.md, "Command
+/// line").
 ///
 /// # Errors
-/// The first that holds, in this order: no word, a word that begins with `-`, an unknown command, another number of words, an N that is no
-/// number from 0 to 2^32 - 1. Words count from 1.
+/// The first that holds, in this order: no word, a word that begins with `-`, an unknown command, another number of words, a BUDGET or an N
+/// that is no number from 0 to 2^32 - 1. Words count from 1.
 pub fn read_words(words: &[String]) -> Result<Command<'_>, WordsError>
     ensures ok { IfOk result (λ command. Ask words.now (request_of command)) }
     ensures err { IfErr result (λ e. AreRefused words.now e) }
@@ -194,6 +219,9 @@ pub fn read_words(words: &[String]) -> Result<Command<'_>, WordsError>
     let name = words[0].as_str();
     if is_word(name, "check") {
         return read_check(words);
+    }
+    if is_word(name, "extend") {
+        return read_extend(words);
     }
     if is_word(name, "compile") {
         return read_compile(words);

@@ -1,5 +1,5 @@
 -- A book grows by what its candidates add, one after the other.
-use Rattle.std.proofs.Common.{◌≡◌, ℕ, suc, ◌+◌, ◌≤◌, List, [], ◌∷◌, ◌++◌, length, take, Option, Some, None, Contains, refl, sym, ap, subst, ◌∙◌, inl, inr, arith, append_assoc}
+use Rattle.std.proofs.Common.{◌≡◌, ℕ, suc, ◌+◌, ◌*◌, ◌≤◌, List, [], ◌∷◌, ◌++◌, length, take, Option, Some, None, Contains, refl, sym, ap, subst, ◌∙◌, inl, inr, arith, append_assoc}
 use Rattle.std.specs.Prelude.{MatchOption}
 use Rattle.std.proofs.lemmas.List.{length-append, append-nil, take_all, take-append-le}
 use Rattle.std.specs.List.{AllByRecursion}
@@ -166,11 +166,12 @@ none_left book budget tried coming turns salvos h most none =
     whole book budget tried coming turns salvos h
     (ap (take budget) (h.all ∙ ap (λ l. h.done ++ l) none ∙ append-nil h.done) ∙ take_all budget h.done (omega arith))
 
--- a book under way: so many candidates were tried, the hits are at its hand, and the counter of generations didn't fall
+-- a book under way: so many candidates were tried, the hits are at its hand, and the counter of generations rose by as much as they take at most
 pub record IsUnderWay (book : CheckedEntries) (tried : ℕ) (coming : List Candidate) (turns : List RawTurn) (salvos : List RawSalvo) (hand : Cells) (before now : ℕ) : Type 0 where
   pub growing : IsGrowing (said_of book) tried coming turns salvos
   pub hand_is : hand ≡ book.hand
-  pub steps : before ≤ now
+  pub least : before ≤ now
+  pub most : now ≤ before + 262208 * tried
 
 pub begins : (book : CheckedEntries) (settings : Settings) (kinds : List RawKind) (checked_turns : List Checked) (checked_salvos : List Struck) (coming : List Candidate) (turns : List RawTurn) (salvos : List RawSalvo) (hand : Cells) (steps : ℕ) →
     settings ≡ book.settings → kinds ≡ book.kinds → checked_turns ≡ book.turns → checked_salvos ≡ book.salvos → hand ≡ book.hand → coming ≡ candidates settings (length kinds) → turns ≡ raws checked_turns → salvos ≡ raw_salvos checked_salvos →
@@ -178,14 +179,16 @@ pub begins : (book : CheckedEntries) (settings : Settings) (kinds : List RawKind
 begins book settings kinds checked_turns checked_salvos coming turns salvos hand steps same_settings same_kinds same_turns same_salvos same_hand all t s = record {
   growing = none_tried (said_of book) coming turns salvos (all ∙ ap (λ k. candidates settings (length k)) same_kinds ∙ ap (λ e. candidates e (length book.kinds)) same_settings) (t ∙ ap raws same_turns) (s ∙ ap raw_salvos same_salvos);
   hand_is = same_hand;
-  steps = omega arith;
+  least = omega arith;
+  most = omega arith;
 }
 
 pub goes_on : (book : CheckedEntries) (tried : ℕ) (old new : List Candidate) (candidate : Candidate) (turns turns_then : List RawTurn) (salvos salvos_then : List RawSalvo) (hand hand_then : Cells) (before now then : ℕ) →
-    IsUnderWay book tried old turns salvos hand before now → old ≡ candidate ∷ new → Grow (said_of book) (tried + 1) candidate turns turns_then salvos salvos_then → hand_then ≡ hand → now ≤ then →
+    IsUnderWay book tried old turns salvos hand before now → old ≡ candidate ∷ new → Grow (said_of book) (tried + 1) candidate turns turns_then salvos salvos_then → hand_then ≡ hand → now ≤ then → then ≤ now + 262208 →
     IsUnderWay book (tried + 1) new turns_then salvos_then hand_then before then
-goes_on book tried old new candidate turns turns_then salvos salvos_then hand hand_then before now then h next grow same later = record {
+goes_on book tried old new candidate turns turns_then salvos salvos_then hand hand_then before now then h next grow same later few = record {
   growing = one_tried (said_of book) tried old new candidate turns turns_then salvos salvos_then h.growing next grow;
   hand_is = same ∙ h.hand_is;
-  steps = let so_far = h.steps in omega arith;
+  least = let so_far = h.least in omega arith;
+  most = let so_far = h.most in omega arith;
 }

@@ -1,10 +1,11 @@
 //! A book and what the first candidates of its finder add.
 
-ghost use Rattle.std.specs.Prelude.{◌≡◌, ◌≤◌, [], ◌∷◌, ◌++◌, length, IfOk, IfErr, OnOk, MatchOption};
+ghost use Rattle.std.specs.Prelude.{◌≡◌, ◌+◌, ◌*◌, ◌≤◌, [], ◌∷◌, ◌++◌, length, IfOk, IfErr, OnOk, MatchOption};
 ghost use Rattle.std.specs.List.{Contains};
 ghost use Rattle.book_parts.specs.Proper.{IsProperBook};
 ghost use Rattle.recipe_book.specs.Checked.{said_of};
 ghost use Rattle.find_order.specs.Fit.{IsFitting};
+ghost use Rattle.recipe_find.specs.declared.limits.TheConstants.{MOST_GENERATIONS};
 ghost use Rattle.recipe_find.specs.Adding.{known};
 ghost use Rattle.recipe_find.specs.Known.{HasJust};
 ghost use Rattle.recipe_find.specs.Growing.{Grow};
@@ -59,7 +60,8 @@ fn add_found<L: Ledger>(
     requires hand { hits.old.hand ≡ book.now.hand }
     ensures grow { OnOk result (Grow (said_of book.now) number candidate.now entries.old.turns.items entries.new.turns.items entries.old.salvos.items entries.new.salvos.items) }
     ensures hand { hits.new.hand ≡ hits.old.hand }
-    ensures steps { steps.old ≤ steps.new }
+    ensures least { steps.old ≤ steps.new }
+    ensures most { steps.new ≤ steps.old + MOST_GENERATIONS }
 {
     match candidate {
         Candidate::Lanes(lanes) => {
@@ -91,7 +93,8 @@ fn try_candidate<L: Ledger>(
     requires hand { hits.old.hand ≡ book.now.hand }
     ensures grow { OnOk result (Grow (said_of book.now) number candidate.now entries.old.turns.items entries.new.turns.items entries.old.salvos.items entries.new.salvos.items) }
     ensures hand { hits.new.hand ≡ hits.old.hand }
-    ensures steps { steps.old ≤ steps.new }
+    ensures least { steps.old ≤ steps.new }
+    ensures most { steps.new ≤ steps.old + MOST_GENERATIONS }
 {
     if taken.contains(candidate) {
         return Ok(());
@@ -107,7 +110,8 @@ fn found_entries<L: Ledger>(
     steps: &mut Steps<L>,
 ) -> Result<Entries, NoMemory>
     ensures extended { IfOk result (λ entries. IsExtended (said_of book.now) budget (record (said_of book.now) { turns = entries.turns.items; salvos = entries.salvos.items })) }
-    ensures steps { steps.old ≤ steps.new }
+    ensures least { steps.old ≤ steps.new }
+    ensures most { steps.new ≤ steps.old + MOST_GENERATIONS * budget }
 {
     let taken = known_candidates(alloc, book)?;
     let mut hits = SalvoHits::start(alloc, book.checked_hand());
@@ -137,7 +141,7 @@ fn found_entries<L: Ledger>(
 }
 
 /// The accepted entries of a book, followed by what the first candidates of its finder add, up to so many (docs/DEFINITIONS.md, "The finder").
-/// Every generation that is evolved is counted in `steps`.
+/// Every generation that is evolved is counted in `steps`: at most 262,208 for a candidate.
 ///
 /// # Errors
 /// `BookFull` where the whole has more than a book may have: the first of salvos, turns and live cells of which there are too many, and how
@@ -151,7 +155,8 @@ pub fn extend<L: Ledger>(
     ensures extended { IfOk result (λ whole. IsExtended (said_of book.now) budget whole) }
     ensures proper { IfOk result (λ whole. IsProperBook whole) }
     ensures refusal { IfErr result (λ e. FindingIsRefused (said_of book.now) budget e) }
-    ensures steps { steps.old ≤ steps.new }
+    ensures least { steps.old ≤ steps.new }
+    ensures most { steps.new ≤ steps.old + MOST_GENERATIONS * budget }
 {
     let entries = found_entries(alloc, book, budget, steps)?;
     let whole = RawBook {

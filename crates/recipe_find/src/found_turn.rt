@@ -1,11 +1,12 @@
 //! The turn that a list of delays adds.
 
-ghost use Rattle.std.specs.Prelude.{◌≡◌, ◌≤◌, IfOk, MatchOption, length};
+ghost use Rattle.std.specs.Prelude.{◌≡◌, ◌+◌, ◌≤◌, IfOk, MatchOption, length};
 ghost use Rattle.std.specs.List.{Contains};
 ghost use Rattle.recipe_book.specs.Checked.{said_of};
 ghost use Rattle.book_parts.specs.declared.turn.RawTurn.{RawTurn};
 ghost use Rattle.find_order.specs.declared.candidate.Candidate.TheVariants.{Delays};
 ghost use Rattle.find_order.specs.Fit.{AreDelaysOfTurn};
+ghost use Rattle.recipe_find.specs.declared.limits.TheConstants.{MOST_GENERATIONS};
 ghost use Rattle.recipe_find.specs.Adding.{AddsTurn, known};
 
 use crate::limits::{are_delays, is_end};
@@ -32,7 +33,8 @@ pub(crate) fn found_turn<L: Ledger>(
     requires unknown { Contains (known (said_of book.now)) (Delays kind delays.now) → ⊥ }
     ensures found { IfOk result (λ found. MatchOption found ((turn : RawTurn) → AddsTurn (said_of book.now) number (Delays kind delays.now) turn → ⊥)
         (AddsTurn (said_of book.now) number (Delays kind delays.now))) }
-    ensures steps { steps.old ≤ steps.new }
+    ensures least { steps.old ≤ steps.new }
+    ensures most { steps.new ≤ steps.old + MOST_GENERATIONS }
 {
     // This says that one turn at most is the least; it does nothing.
     one_turn_is_the_least();

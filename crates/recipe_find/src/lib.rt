@@ -8,7 +8,7 @@ mod found_salvo;
 mod found_turn;
 mod known;
 pub mod laws;
-mod limits;
+pub mod limits;
 mod names;
 mod room;
 

@@ -12,6 +12,9 @@ use book_parts::limits::{GREATEST_COORDINATE, GREATEST_INDEX, LONGEST_DELAY};
 use find_salvo::Outcome;
 use life_cells::{Bounds, Cell, CellSet};
 
+/// The most generations that a candidate takes: 4,097 for each of 64 lanes.
+pub const MOST_GENERATIONS: u64 = 262_208;
+
 /// Whether a coordinate, shift or lane is one that a book may have.
 fn is_coordinate(number: i64) -> bool
     ensures { IsTrue result ↔ IsCoordinate number }

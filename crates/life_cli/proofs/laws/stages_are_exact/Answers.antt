@@ -13,6 +13,8 @@ returns c =
       one_salvos = c.sound_salvos_are_one.ensures;
       one_hits = c.salvos_have_one_list_of_hits.ensures;
       book_taken = c.taken_books_have_no_refusal.ensures;
+      one_whole = c.extended_books_are_one.ensures;
+      not_full = c.books_with_room_are_not_refused.ensures;
       no_stop = c.plans_have_no_stop.ensures;
     } in
     requests_are_exact exact

@@ -17,13 +17,24 @@ read_check-requires c =
       },
     )
 
+pub read_extend-requires : goal.read_extend-requires
+read_extend-requires c =
+    let some : 0 < length c.args.words.now = grind (arith, nat_tests) in (
+      rest_of c.args.words.now,
+      record {
+        whole = texts_from_first c.args.words.now c.index-words-0.result some ∙ ap (λ w. string_bytes w ∷ rest_of c.args.words.now) (sym c.index-words-0.is)
+            ∙ ap (λ t. t ∷ rest_of c.args.words.now) (sym c.as_str-name.ensures.value ∙ c.is_word-2.ensures.0 c.if-is_word-2.true);
+        plain = sym c.first_dash.ensures ∙ c.in_default.is;
+      },
+    )
+
 pub read_compile-requires : goal.read_compile-requires
 read_compile-requires c =
     let some : 0 < length c.args.words.now = grind (arith, nat_tests) in (
       rest_of c.args.words.now,
       record {
         whole = texts_from_first c.args.words.now c.index-words-0.result some ∙ ap (λ w. string_bytes w ∷ rest_of c.args.words.now) (sym c.index-words-0.is)
-            ∙ ap (λ t. t ∷ rest_of c.args.words.now) (sym c.as_str-name.ensures.value ∙ c.is_word-2.ensures.0 c.if-is_word-2.true);
+            ∙ ap (λ t. t ∷ rest_of c.args.words.now) (sym c.as_str-name.ensures.value ∙ c.is_word-3.ensures.0 c.if-is_word-3.true);
         plain = sym c.first_dash.ensures ∙ c.in_default.is;
       },
     )
@@ -34,7 +45,7 @@ read_replay-requires c =
       rest_of c.args.words.now,
       record {
         whole = texts_from_first c.args.words.now c.index-words-0.result some ∙ ap (λ w. string_bytes w ∷ rest_of c.args.words.now) (sym c.index-words-0.is)
-            ∙ ap (λ t. t ∷ rest_of c.args.words.now) (sym c.as_str-name.ensures.value ∙ c.is_word-3.ensures.0 c.if-is_word-3.true);
+            ∙ ap (λ t. t ∷ rest_of c.args.words.now) (sym c.as_str-name.ensures.value ∙ c.is_word-4.ensures.0 c.if-is_word-4.true);
         plain = sym c.first_dash.ensures ∙ c.in_default.is;
       },
     )
@@ -51,5 +62,6 @@ returns-clause-err c =
       };
       unknown = no_command _ (λ e. let bad : false ≡ true = sym c.if-is_word.false ∙ c.is_word.ensures.1 (c.as_str-name.ensures.value ∙ e) in cc)
           (λ e. let bad : false ≡ true = sym c.if-is_word-2.false ∙ c.is_word-2.ensures.1 (c.as_str-name.ensures.value ∙ e) in cc)
-          (λ e. let bad : false ≡ true = sym c.if-is_word-3.false ∙ c.is_word-3.ensures.1 (c.as_str-name.ensures.value ∙ e) in cc);
+          (λ e. let bad : false ≡ true = sym c.if-is_word-3.false ∙ c.is_word-3.ensures.1 (c.as_str-name.ensures.value ∙ e) in cc)
+          (λ e. let bad : false ≡ true = sym c.if-is_word-4.false ∙ c.is_word-4.ensures.1 (c.as_str-name.ensures.value ∙ e) in cc);
     }

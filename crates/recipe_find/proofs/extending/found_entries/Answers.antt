@@ -19,4 +19,4 @@ try_candidate-requires-clause-fit g c =
 pub loop-tried-preserved : goal.loop-tried-preserved
 loop-tried-preserved g c =
     goes_on c.args.book.now c.loop-tried.tried _ _ c.in-Some.candidate _ _ _ _ _ _ _ _ _ c.loop-tried.invariant (some_when _ _ _ c.in-Some.is c.in_ok-candidate.ensures.some)
-    c.in_ok-try_candidate.ensures.grow c.in_ok-try_candidate.ensures.hand c.in_ok-try_candidate.ensures.steps
+    c.in_ok-try_candidate.ensures.grow c.in_ok-try_candidate.ensures.hand c.in_ok-try_candidate.ensures.least c.in_ok-try_candidate.ensures.most
