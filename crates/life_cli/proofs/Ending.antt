@@ -8,7 +8,7 @@ use Rattle.life_cli.specs.declared.status.Status.{Status}
 use Rattle.life_cli.specs.declared.status.Status.TheVariants.{Done, Words, ReadFault, WriteFault, Memory}
 use Rattle.life_cli.specs.Requests.{Request, Ask}
 use Rattle.life_cli.specs.Inputs.{Told}
-use Rattle.life_cli.specs.Stages.{Stages, Give, Refuse, Pass, HasCause}
+use Rattle.life_cli.specs.Stages.{Give, Refuse, Pass, HasCause}
 use Rattle.life_cli.specs.Putting.{PuttingRefuses}
 use Rattle.life_cli.specs.Run.{Run, stages_of, NoFaultOfReading, NoFaultOfWriting, NothingIsPut, Ends}
 use Rattle.life_cli.specs.Complete.{IsDue, IsDoneBut}

@@ -10,3 +10,4 @@ mod Gaining
 mod Ending
 mod OneBook
 mod Exactness
+mod Appended

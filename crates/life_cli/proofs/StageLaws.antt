@@ -3,7 +3,7 @@ use Rattle.std.specs.Prelude.{Vec}
 use Rattle.std.specs.declared.alloc.Global.{Global}
 use Rattle.std.specs.declared.result.Result.{Result}
 use Rattle.std.specs.Result.{IsErrAnd}
-use Rattle.std.proofs.Common.{◌≡◌, ◌⊎◌, ℕ, ◌+◌, ◌≤◌, List, IfOk, IfErr, Ok, Err, sym, subst, inl, inr, arith}
+use Rattle.std.proofs.Common.{◌≡◌, ℕ, ◌+◌, ◌≤◌, List, IfOk, IfErr, Ok, Err, sym, subst, inl, inr, arith}
 use Rattle.life_cli.specs.declared.status.Status.{Status}
 use Rattle.life_cli.specs.declared.status.Status.TheVariants.{Done, Words, ReadFault, WriteFault, Memory}
 use Rattle.life_cli.specs.Stages.{Stages, Give, Refuse, Pass, CountWithin, HasCause, EndWith}

@@ -1,8 +1,8 @@
 -- The words of the command line, one by one.
-use Rattle.std.proofs.Common.{◌≡◌, ℕ, ◌+◌, ◌<◌, List, [], ◌∷◌, length, get_or, refl, sym, ap, subst, inl, arith, Global, String, codes}
+use Rattle.std.proofs.Common.{◌≡◌, ℕ, ◌+◌, ◌<◌, List, [], ◌∷◌, length, get_or, refl, sym, ap, subst, ◌∙◌, inl, arith, Global, String}
 use Rattle.std.specs.Prelude.{◌≢◌, Some}
 use Rattle.std.specs.String.{string_bytes}
-use Rattle.life_cli.specs.Words.{Words, texts_of, Usage, usage_of, replay, generations, Spells, BeginWith, AreMiscounted, AreMisnumbered, IsFirstMisspelt}
+use Rattle.life_cli.specs.Words.{Words, texts_of, Number, Usage, usage_of, any_number, Spells, BeginWith, AreMiscounted, AreMisnumbered, IsFirstMisspelt}
 
 -- the texts behind the first word
 abbrev pub rest_of : Words → List (List ℕ)
@@ -31,14 +31,16 @@ miscounted ws first usage (rest, b) known other =
     let f : length (texts_of ws) ≡ length (first ∷ rest) = ap length b.whole in
     record { usage = usage; are = record { first = first; rest = rest; begin = b; known = known }; other = λ same. other (omega arith) }
 
--- behind a pattern stands no number of generations
-pub misnumbered : (ws : Words) (first pattern text : List ℕ) → (rest : List (List ℕ)) × BeginWith ws (codes "replay") rest → texts_of ws ≡ first ∷ (pattern ∷ (text ∷ [])) →
-    ((n : ℕ) → Spells generations text n → ⊥) → AreMisnumbered ws generations.place
-misnumbered ws first pattern text (rest, b) whole none =
-    let same : rest ≡ pattern ∷ (text ∷ []) = let begin = b.whole in cc in
+-- behind a text's name stands no number
+pub misnumbered : (ws : Words) (command : List ℕ) (usage : Usage) (first name text : List ℕ) → (rest : List (List ℕ)) × BeginWith ws command rest → usage_of command ≡ Some usage → usage.takes ≡ 2 →
+    usage.numbers ≡ any_number ∷ [] → texts_of ws ≡ first ∷ (name ∷ (text ∷ [])) → ((n : ℕ) → Spells any_number text n → ⊥) → AreMisnumbered ws any_number.place
+misnumbered ws command usage first name text (rest, b) known two numbers whole none =
+    let same : rest ≡ name ∷ (text ∷ []) = let begin = b.whole in cc in
+    let bad : IsFirstMisspelt (texts_of ws) (any_number ∷ []) any_number.place =
+    subst (λ (texts : List (List ℕ)). IsFirstMisspelt texts (any_number ∷ []) any_number.place) (sym whole) (inl (λ h. none h.0 h.1, refl)) in
     record {
-      usage = replay;
-      are = record { first = codes "replay"; rest = rest; begin = b; known = refl };
-      counted = ap length same;
-      misspelt = subst (λ (texts : List (List ℕ)). IsFirstMisspelt texts (generations ∷ []) generations.place) (sym whole) (inl (λ h. none h.0 h.1, refl));
+      usage = usage;
+      are = record { first = command; rest = rest; begin = b; known = known };
+      counted = ap length same ∙ sym two;
+      misspelt = subst (λ (ns : List Number). IsFirstMisspelt (texts_of ws) ns any_number.place) (sym numbers) bad;
     }

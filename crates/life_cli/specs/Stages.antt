@@ -1,5 +1,5 @@
 -- A request is a list of stages that leads to an answer. The stages that pass and the one that refuses, and what a run of them comes to.
-use Rattle.std.specs.Prelude.{◌≡◌, ◌⊎◌, ℕ, ◌+◌, ◌≤◌, List, IfOk, IfErr, Vec}
+use Rattle.std.specs.Prelude.{◌⊎◌, ℕ, ◌+◌, ◌≤◌, List, IfOk, IfErr, Vec}
 use Rattle.std.specs.declared.alloc.Global.{Global}
 use Rattle.std.specs.declared.result.Result.{Result}
 use Rattle.life_cli.specs.declared.status.Status.{Status}

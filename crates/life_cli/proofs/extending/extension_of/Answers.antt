@@ -1,5 +1,5 @@
 use Rattle.std.proofs.Common.{arith}
-use Rattle.life_cli.proofs.StageLaws.{hands_on, behind}
+use Rattle.life_cli.proofs.StageLaws.{behind}
 use Rattle.life_cli.proofs.extending.extension_of.Goals as goal
 
 pub returns-clause-ends : goal.returns-clause-ends

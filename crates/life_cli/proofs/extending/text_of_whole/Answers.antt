@@ -1,6 +1,6 @@
 use Rattle.std.proofs.Common.{arith}
 use Rattle.life_cli.specs.Extended.{IsWholeText}
-use Rattle.life_cli.proofs.StageLaws.{hands_on, behind, answered}
+use Rattle.life_cli.proofs.StageLaws.{behind, answered}
 use Rattle.life_cli.proofs.extending.text_of_whole.Goals as goal
 
 pub returns-clause-ends : goal.returns-clause-ends

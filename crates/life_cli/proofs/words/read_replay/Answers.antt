@@ -10,4 +10,4 @@ returns-in_default-clause-err c = miscounted c.args.words.now (codes "replay") u
 pub returns-in-None-clause-err : goal.returns-in-None-clause-err
 returns-in-None-clause-err c =
     let there = c.in-Some.ensures.some in
-    misnumbered c.args.words.now there.0 _ _ c.requires there.1 c.in-None.ensures.none
+    misnumbered c.args.words.now (codes "replay") usage.replay there.0 _ _ c.requires refl refl refl there.1 c.in-None.ensures.none

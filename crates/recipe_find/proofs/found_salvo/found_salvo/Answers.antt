@@ -1,7 +1,5 @@
-use Rattle.std.proofs.Common.{sym, subst, ◌∙◌}
+use Rattle.std.proofs.Common.{sym, ◌∙◌}
 use Rattle.std.proofs.lemmas.Bool.{false≢true}
-use Rattle.life_cells.specs.Cells.{alive}
-use Rattle.find_salvo.specs.Salvos.{IsSalvoOutcome, HasNoSalvo}
 use Rattle.recipe_book.specs.Checked.{said_of}
 use Rattle.recipe_find.proofs.Finding.{no_outcome, not_limited}
 use Rattle.recipe_find.proofs.Options.{none_when, some_when}

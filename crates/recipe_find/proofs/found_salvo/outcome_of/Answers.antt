@@ -1,4 +1,4 @@
-use Rattle.std.proofs.Common.{subst, ◌≡◌}
+use Rattle.std.proofs.Common.{subst}
 use Rattle.std.specs.Prelude.{IfOk, IfNone}
 use Rattle.life_cells.specs.Cells.{alive}
 use Rattle.find_salvo.specs.Salvos.{HasNoSalvo}
