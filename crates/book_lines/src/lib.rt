@@ -24,5 +24,7 @@ pub use fault::{LineError, LineFault};
 pub use keyword::Keyword;
 pub use limit::Limit;
 pub use line::statement_of;
-pub use statement::{Body, ElbowLine, NamedEnd, Placed, SalvoLine, SettingLine, Statement, TurnLine};
+pub use statement::{
+    Body, ElbowLine, NamedEnd, Placed, SalvoLine, SettingLine, Statement, TurnLine,
+};
 pub use words::words_of;

@@ -4,7 +4,7 @@ ghost use Rattle.std.specs.Prelude.{◌≡◌, ℤ, [], ◌∷◌, ◌++◌, map
 ghost use Rattle.life_cells.specs.Cells.{in_order};
 ghost use Rattle.book_read.specs.Limited.{held, setting_limited, cell_numbers, body_numbers, placed_numbers, end_numbers, product_numbers, place_numbers, numbers, IsFirstOutside};
 
-use book_lines::{Body, NamedEnd, Limit, Placed, SalvoLine, SettingLine, Statement, TurnLine};
+use book_lines::{Body, Limit, NamedEnd, Placed, SalvoLine, SettingLine, Statement, TurnLine};
 use life_cells::{Cell, CellSet};
 
 /// The first number of a statement that is outside its limits.
