@@ -87,6 +87,7 @@ impl TileMap {
         ensures few { length self.new.places.keys ≤ length self.old.places.keys + 1 }
         ensures none { OnErr result (length self.new.places.keys ≤ length self.old.places.keys) }
         ensures full { OnErr result (self.new.room ≤ length self.new.places.keys) }
+        ensures steady { grows ≡ false → self.new.room ≡ self.old.room }
     {
         if let Some(index) = self.find(place) {
             return Ok(index);
@@ -106,6 +107,7 @@ impl TileMap {
         ensures same { self.new.places.keys ≡ self.old.places.keys }
         ensures free { OnOk result (length self.new.places.keys < self.new.room) }
         ensures full { OnErr result (self.new.room ≤ length self.new.places.keys) }
+        ensures steady { grows ≡ false → self.new.room ≡ self.old.room }
     {
         if self.places.len() < self.room {
             return Ok(());
