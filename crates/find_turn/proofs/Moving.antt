@@ -1,7 +1,7 @@
 -- Sets of which one is the other, moved along the diagonal.
 use Rattle.std.proofs.Common.{◌≡◌, ℕ, ◌+◌, ◌<◌, ◌≤◌, ℤ, ◌+ℤ◌, ◌-ℤ◌, List, [], ◌∷◌, ◌++◌, length, get_or, take, map, sym, ap, ◌∙◌, arith}
 use Rattle.std.specs.List.{All}
-use Rattle.find_turn.proofs.Behind.{in_range_at}
+use Rattle.find_turn.proofs.Kept.{in_range_at}
 use Rattle.std.proofs.lemmas.List.{take_more, take_all, map_more, get_or-map, length-map}
 use Rattle.life_plane.specs.Plane.{shift, same_plane}
 use Rattle.life_cells.specs.declared.cell.Cell.{Cell}

@@ -1,5 +1,5 @@
 -- Numbers as they are kept in 64 bits, and tests of them.
-use Rattle.std.proofs.Common.{◌≡◌, ℕ, ◌^◌, Bool, true, false, ℤ, pos, neg_ℤ, ◌+ℤ◌, ◌-ℤ◌, ◌≤ℤ◌, w64, to_z, of_z, IsTrue, ◌↔◌, sym, subst, arith}
+use Rattle.std.proofs.Common.{◌≡◌, ℕ, ◌^◌, ℤ, pos, negsuc, neg_ℤ, ◌+ℤ◌, ◌-ℤ◌, ◌≤ℤ◌, w64, to_z, of_z, IsTrue, ◌↔◌, sym, subst, arith}
 use lib.Signed.{le_z}
 use Rattle.std.proofs.lemmas.Int.{ints}
 use Rattle.life_plane.specs.NumberLaws.{le_from_test, test_from_le}
@@ -17,11 +17,6 @@ test_decides a b x y ea eb = (
   λ test. subst (λ z. x ≤ℤ z) eb (subst (λ z. z ≤ℤ b) ea (le_from_test test)),
   λ le. test_from_le (subst (λ z. a ≤ℤ z) (sym eb) (subst (λ z. z ≤ℤ y) (sym ea) le)),
 )
-
--- what a failed test decides against
-pub not_if_false : (b : Bool) (P : Type 0) → b ≡ false → IsTrue b ↔ P → P → ⊥
-not_if_false true P is h p = cc
-not_if_false false P is h p = let yes = h.1 p in cc
 
 -- ---- the sides of a moved box
 
@@ -89,3 +84,8 @@ bottom_moves from to f t m = side_moves to.bottom from.bottom to.top from.top m.
 
 pub read_near : (z : ℤ) → IsNear z → to_z w64 (of_z w64 z) ≡ z
 read_near z near = let low = near.low in let high = near.high in omega (arith, ints)
+
+-- a natural number that is no less
+pub up_to : (z : ℤ) → (k : ℕ) × (z ≤ℤ pos k)
+up_to (pos n) = (n, omega (arith, ints))
+up_to (negsuc n) = (0, omega (arith, ints))

@@ -47,9 +47,15 @@ kind_lives (kind ∷ kinds) proper (suc (suc k)) is = let most = is.most in kind
 
 -- ---- thrown gliders
 
-quarters_below : (j : ℤ) → (pos 4 *ℤ int_div_euclid j (pos 4)) ≤ℤ j
+-- floor(j/4) is at most j/4
+pub quarters_below : (j : ℤ) → (pos 4 *ℤ int_div_euclid j (pos 4)) ≤ℤ j
 quarters_below (pos n) = omega (arith, ints)
 quarters_below (negsuc n) = omega (arith, ints)
+
+-- and less than one below it
+pub quarters_above : (j : ℤ) → j ≤ℤ (pos 4 *ℤ int_div_euclid j (pos 4) +ℤ pos 3)
+quarters_above (pos n) = omega (arith, ints)
+quarters_above (negsuc n) = omega (arith, ints)
 
 -- a glider that is thrown in front of the wall has u at least five more than it
 pub thrown_beyond : (wall lane j x y : ℤ) → (wall +ℤ pos 5) ≤ℤ ((lane +ℤ pos 2 *ℤ int_div_euclid j (pos 4)) +ℤ pos 1) → salvo_glider lane j x y ≡ true → (wall +ℤ pos 5) ≤ℤ (x -ℤ y)
@@ -114,14 +120,17 @@ front_lives wall lane j s is =
     let parts = and_parts (s f.x f.y) (int_le (wall +ℤ pos 5) (f.x -ℤ f.y)) (ap (λ (p : Plane). p f.x f.y) is ∙ f.lives) in
     (f.x, (f.y, (parts.0, le_from_test parts.1)))
 
--- what is behind the wall is in range where all is
-pub behind_range : (n : ℕ) (wall : ℤ) (s : Plane) → IsInRange n s → IsInRange n (behind wall s)
-behind_range n wall s range = record {
-  x_low = λ x y live. range.x_low x y (and_parts _ _ live).0;
-  x_high = λ x y live. range.x_high x y (and_parts _ _ live).0;
-  y_low = λ x y live. range.y_low x y (and_parts _ _ live).0;
-  y_high = λ x y live. range.y_high x y (and_parts _ _ live).0;
+-- a part is in range where all is
+pub part_range : (n : ℕ) (part s : Plane) → ((x y : ℤ) → part x y ≡ true → s x y ≡ true) → IsInRange n s → IsInRange n part
+part_range n part s each range = record {
+  x_low = λ x y live. range.x_low x y (each x y live);
+  x_high = λ x y live. range.x_high x y (each x y live);
+  y_low = λ x y live. range.y_low x y (each x y live);
+  y_high = λ x y live. range.y_high x y (each x y live);
 }
+
+pub behind_range : (n : ℕ) (wall : ℤ) (s : Plane) → IsInRange n s → IsInRange n (behind wall s)
+behind_range n wall s range = part_range n (behind wall s) s (λ x y live. (and_parts _ _ live).0) range
 
 -- ---- as numbers are read
 

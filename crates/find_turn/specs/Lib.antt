@@ -5,3 +5,4 @@ pub mod Standing
 pub mod Search
 pub mod Boxes
 pub mod Behind
+pub mod Settled

@@ -9,6 +9,7 @@ pub mod found_turn;
 mod front;
 pub mod laws;
 mod search;
+mod settled;
 mod standing;
 mod tried;
 

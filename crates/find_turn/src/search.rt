@@ -1,6 +1,6 @@
 //! A turn, generation by generation, until it comes to an end.
 
-ghost use Rattle.std.specs.Prelude.{◌↔◌, ◌+◌, ◌≤◌, ◌^◌, IfOk, IsTrue, MatchOption};
+ghost use Rattle.std.specs.Prelude.{◌≡◌, ◌↔◌, ◌+◌, ◌%◌, ◌≤◌, ◌^◌, IfOk, OnOk, IsTrue, MatchOption};
 ghost use Rattle.std.specs.List.{AllByRecursion};
 ghost use Rattle.life_cells.specs.Cells.{alive};
 ghost use Rattle.life_cells.specs.Boxes.{IsInRange, IsBoxOf, IsBoxInRange};
@@ -11,11 +11,14 @@ ghost use Rattle.recipe_turn.specs.Bounds.{KeepsBoth};
 ghost use Rattle.recipe_turn.specs.Checked.{AreValid};
 ghost use Rattle.find_turn.specs.Boxes.{AreBoxesOf};
 ghost use Rattle.find_turn.specs.Search.{IsFirstEndAt, NeverEnds};
+ghost use Rattle.find_turn.specs.Settled.{HasSettled, StopsWhenSettled};
+ghost use Rattle.find_turn.specs.declared.search.TheConstants.{BETWEEN_LOOKS};
 ghost use Rattle.find_turn.specs.Standing.{IsFirstEnd, IsNoEnd};
 
 use crate::boxes::{boxes_of, may_be_end};
 use crate::ending::end_of;
 use crate::found_turn::FoundTurn;
+use crate::settled::has_settled;
 use crate::tried::Tried;
 use book_parts::{RawKind, Settings, TurnEnd};
 use life_cells::{Bounds, CellSet, NoMemory};
@@ -25,9 +28,12 @@ use recipe_turn::keeps_bounds;
 use std::alloc::Global;
 use std::sync::ledger::Ledger;
 
+/// After so many generations it is looked again whether a pattern has settled.
+const BETWEEN_LOOKS: u32 = 256;
+
 /// The first of these generations at which a turn of these delays comes to an end, in bounds, from its start; None exactly where it doesn't.
-/// Each generation is stepped once and looked at once. Once one breaks the bounds no later one is looked at, nor once one is still and
-/// was no end.
+/// Each generation is stepped once and looked at once. The search stops at one that breaks the bounds, at one that is still and was no end,
+/// and, of those at which that is looked at, at one that has settled and is no end.
 pub(crate) fn first_end<L: Ledger>(
     alloc: Global,
     settings: &Settings,
@@ -46,6 +52,7 @@ pub(crate) fn first_end<L: Ledger>(
     requires some { 1 ≤ tried.least }
     requires longest { tried.most ≤ LONGEST_TURN }
     ensures found { IfOk result (λ found. MatchOption found (NeverEnds settings.now kinds.now delays.now (alive start.now) tried) (IsFirstEndAt settings.now kinds.now delays.now (alive start.now) tried)) }
+    ensures settled { OnOk result (StopsWhenSettled (alive start.now) tried.least steps.old steps.new) }
     ensures least { steps.old ≤ steps.new }
     ensures most { steps.new ≤ steps.old + tried.most }
 {
@@ -66,9 +73,23 @@ pub(crate) fn first_end<L: Ledger>(
             if let Some(end) = end_now(alloc, settings, kinds, &boxes, &tiles, bounds)? {
                 return Ok(Some(FoundTurn { n, end }));
             }
+            if is_over(alloc, n, &tiles)? {
+                return Ok(None);
+            }
         }
     }
     Ok(None)
+}
+
+/// Whether this generation is one at which it is looked whether the pattern has settled, and it has.
+fn is_over(alloc: Global, n: u32, tiles: &Tiles) -> Result<bool, NoMemory>
+    requires range { IsInRange (2 ^ 41) (alive tiles.now.cells) }
+    ensures { IfOk result (λ over. IsTrue over ↔ ((n % BETWEEN_LOOKS ≡ 0) × HasSettled (alive tiles.now.cells))) }
+{
+    if n % BETWEEN_LOOKS != 0 {
+        return Ok(false);
+    }
+    has_settled(alloc, &tiles.to_cells()?)
 }
 
 /// Whether a generation keeps the bounds of a turn of these delays, where its least box is given.

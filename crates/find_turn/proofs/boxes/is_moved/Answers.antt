@@ -1,5 +1,6 @@
 use Rattle.std.proofs.lemmas.Bool.{false≢true}
-use Rattle.find_turn.proofs.Numbers.{box_moves, left_moves, right_moves, bottom_moves, not_if_false}
+use Rattle.life_plane.specs.LookUpLaws.{not_if_false}
+use Rattle.find_turn.proofs.Numbers.{box_moves, left_moves, right_moves, bottom_moves}
 use Rattle.find_turn.proofs.boxes.is_moved.Goals as goal
 
 pub returns-then-not-is_off_by : goal.returns-then-not-is_off_by

@@ -1,5 +1,6 @@
 use Rattle.std.proofs.Common.{◌≡◌, ◌∙◌, ap, sym, subst, w64, to_z, of_z, arith}
 use Rattle.std.proofs.lemmas.Int.{ints}
+use Rattle.life_plane.specs.LookUpLaws.{not_if_false}
 use Rattle.life_plane.specs.Salvo.{salvo_glider}
 use Rattle.life_cells.specs.Boxes.{IsInRange}
 use Rattle.life_cells.specs.Cells.{alive}
@@ -7,7 +8,6 @@ use Rattle.life_gliders.specs.Beyond.{beyond}
 use Rattle.book_parts.specs.declared.turn.TurnEnd.TheVariants.{Move, Emit}
 use Rattle.find_turn.specs.Standing.{IsFirstEnd, IsFirstStanding, NoneStands}
 use Rattle.find_turn.proofs.Ends.{IsFront, no_move, is_move, not_in_front, no_throw, is_throw}
-use Rattle.find_turn.proofs.Numbers.{not_if_false}
 use Rattle.find_turn.proofs.Throwing.{thrown_near, behind_range, read_wall, read_lane, read_index}
 use Rattle.find_turn.proofs.ending.end_of.Goals as goal
 

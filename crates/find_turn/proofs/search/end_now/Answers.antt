@@ -1,9 +1,9 @@
 use Rattle.std.proofs.Common.{subst}
+use Rattle.life_plane.specs.LookUpLaws.{not_if_false}
 use Rattle.life_cells.specs.BoxRangeLaws.{box_in_range}
 use Rattle.life_cells.specs.Boxes.{IsBoxOf}
 use Rattle.life_cells.specs.Cells.{alive}
 use Rattle.find_turn.proofs.BoxesTell.{box_tells}
-use Rattle.find_turn.proofs.Numbers.{not_if_false}
 use Rattle.find_turn.proofs.search.end_now.Goals as goal
 
 pub may_be_end-requires-clause-bounds : goal.may_be_end-requires-clause-bounds

@@ -1,8 +1,9 @@
 use Rattle.std.proofs.Common.{◌≡◌, map, sym, subst, ◌∙◌}
+use Rattle.life_plane.specs.LookUpLaws.{not_if_false}
 use Rattle.life_cells.specs.Moved.{moved}
 use Rattle.find_turn.proofs.KindBoxes.{placed_range}
 use Rattle.find_turn.proofs.Moving.{some_cell, all_in_range, as_many, lists_move, sets_move}
-use Rattle.find_turn.proofs.Numbers.{not_if_false, read_near}
+use Rattle.find_turn.proofs.Numbers.{read_near}
 use Rattle.find_turn.proofs.standing.shift_onto.Goals as goal
 
 pub returns-then-from-to : goal.returns-then-from-to
