@@ -3,3 +3,4 @@ pub mod Options
 pub mod Hits
 pub mod Parting
 pub mod Stands
+pub mod Remembering

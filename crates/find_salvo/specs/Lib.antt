@@ -3,3 +3,4 @@ pub mod Outcomes
 pub mod Salvos
 pub mod OutcomeLaws
 pub mod Kept
+pub mod Memo

@@ -4,9 +4,11 @@
 
 pub mod ending;
 pub mod laws;
+mod memo;
 pub mod outcome;
 pub mod salvo_hits;
 mod standing;
+mod strike;
 
 pub use ending::outcome_of;
 pub use outcome::Outcome;

@@ -1,36 +1,35 @@
 //! Hits that are kept from list to list.
 
-ghost use Rattle.std.specs.Prelude.{◌≡◌, ◌+◌, ◌*◌, ◌++◌, ◌∷◌, [], ◌<◌, ◌≤◌, ◌^◌, length, take, IsTrue, IsFalse, IfOk, IfSome, IfNone};
+ghost use Rattle.std.specs.Prelude.{◌≡◌, ◌+◌, ◌*◌, ◌++◌, ◌∷◌, [], ◌<◌, ◌≤◌, length, take, IsTrue, IsFalse, IfOk, IfSome, IfNone};
 ghost use Rattle.std.specs.List.{AllByRecursion};
-ghost use Rattle.life_cells.specs.Boxes.{IsInRange};
 ghost use Rattle.life_cells.specs.Cells.{alive};
 ghost use Rattle.book_parts.specs.Limits.{IsCoordinate};
 ghost use Rattle.book_parts.specs.declared.limits.TheConstants.{MOST_LANES};
-ghost use Rattle.recipe_hit.specs.Strike.{IsHit};
 ghost use Rattle.recipe_hit.specs.Refusals.{HasNoHit};
 ghost use Rattle.recipe_hit.specs.declared.limits.TheConstants.{MOST_COUNTED};
 ghost use Rattle.find_salvo.specs.Salvos.{IsSalvoOutcome, HasNoSalvo};
 ghost use Rattle.find_salvo.specs.Kept.{lanes_of, left_so_far, IsKept};
 
 use crate::ending::outcome_of;
+use crate::memo::HitMemo;
 use crate::outcome::Outcome;
-use life_cells::{CellSet, NoMemory};
+use life_cells::NoMemory;
 use life_steps::Steps;
 use recipe_hit::in_turn::left_by;
-use recipe_hit::striking::hit;
-use recipe_hit::{Hand, Hit, HitRefusal};
+use recipe_hit::{Hand, Hit};
 use std::alloc::Global;
 use std::marker::Model;
 use std::sync::ledger::Ledger;
 
 /// The hits at a hand of the lanes of a list. The next list strikes anew only from the first lane in which it differs, so lists in an order in
-/// which mostly the last lane changes cost about one hit each. Contracts see the hand's cells, these hits, and a lane that was found to have
-/// none behind them.
+/// which mostly the last lane changes cost about one hit each, and none where that was made before and is still remembered. Contracts see the
+/// hand's cells, these hits, and a lane that was found to have none behind them; no answer depends on what is remembered.
 #[derive(Drop)]
 pub struct SalvoHits<'a> {
     hand: &'a Hand,
     hits: Vec<Hit>,
     missing: Option<i64>,
+    memo: HitMemo,
 }
 
 impl<'a> Model for SalvoHits<'a> {
@@ -54,6 +53,7 @@ impl<'a> SalvoHits<'a> {
             hand,
             hits: Vec::new(alloc),
             missing: None,
+            memo: HitMemo::empty(),
         }
     }
 
@@ -117,7 +117,7 @@ impl<'a> SalvoHits<'a> {
             return Ok(false);
         }
         let left = left_by(self.hand.cells(), &self.hits);
-        match hit_of(alloc, left, lane, steps)? {
+        match self.memo.hit_of(alloc, left, lane, steps)? {
             Some(hit) => {
                 self.hits.push(hit)?;
                 self.missing = None;
@@ -128,28 +128,6 @@ impl<'a> SalvoHits<'a> {
                 Ok(false)
             }
         }
-    }
-}
-
-/// The hit of a glider of a lane with what is left; None exactly where it has none.
-fn hit_of<L: Ledger>(
-    alloc: Global,
-    left: &CellSet,
-    lane: i64,
-    steps: &mut Steps<L>,
-) -> Result<Option<Hit>, NoMemory>
-    requires range { IsInRange (2 ^ 40) (alive left.now) }
-    requires lane { IsCoordinate lane }
-    ensures some { IfOk result (λ found. IfSome found (IsHit (alive left.now) lane)) }
-    ensures none { IfOk result (λ found. IfNone found (HasNoHit (alive left.now) lane)) }
-    ensures least { steps.old ≤ steps.new }
-    ensures most { steps.new ≤ steps.old + MOST_COUNTED }
-{
-    match hit(alloc, left, lane, steps) {
-        Ok(hit) => Ok(Some(hit)),
-        Err(HitRefusal::Empty) => Ok(None),
-        Err(HitRefusal::NotSettled { .. }) => Ok(None),
-        Err(HitRefusal::Memory) => Err(NoMemory),
     }
 }
 

@@ -25,7 +25,7 @@ hit_of-requires-clause-range g c =
     (kept_range _ c.cells.ensures.hand.proper c.self.invariant)
 
 pub returns-in_err-hit-clause-kept : goal.returns-in_err-hit-clause-kept
-returns-in_err-hit-clause-kept g c = subst IsKept c.self.view_is c.self.invariant
+returns-in_err-hit-clause-kept g c = c.self.invariant
 
 pub invariant_of-self-in-Some : goal.invariant_of-self-in-Some
 invariant_of-self-in-Some g c =

@@ -3,7 +3,7 @@ use Rattle.std.proofs.lemmas.Int.{to_z-of_z}
 use Rattle.life_cells.specs.Cells.{alive}
 use Rattle.recipe_hit.specs.Refusals.{HasNoHit, HitIsRefused}
 use Rattle.find_salvo.proofs.Hits.{no_hit_of_nothing}
-use Rattle.find_salvo.proofs.salvo_hits.hit_of.Goals as goal
+use Rattle.find_salvo.proofs.memo.hit_of.Goals as goal
 
 pub returns-in-Err-Empty-clause-none : goal.returns-in-Err-Empty-clause-none
 returns-in-Err-Empty-clause-none g c =
