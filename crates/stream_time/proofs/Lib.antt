@@ -1,3 +1,4 @@
 -- Lemmas on schedules.
 pub mod Places
 pub mod EventsAdded
+pub mod LastTurn
