@@ -1,8 +1,8 @@
--- Each stage of a request is exact: it passes with one value at most, and where it passes it doesn't refuse.
+-- Each stage of a command is exact: it passes with one value at most, and where it passes it doesn't refuse.
 use Rattle.std.specs.Prelude.{◌≡◌, ◌≢◌, ℕ, ◌+ℤ◌, ◌≤ℤ◌, List, length}
 use Rattle.std.specs.declared.option.Option.TheVariants.{Some}
 use Rattle.std.proofs.Common.{refl, ap, subst, inl, inr, arith}
-use Rattle.life_plane.specs.Plane.{Plane, IsStill}
+use Rattle.life_plane.specs.Plane.{Plane, IsStill, nothing}
 use Rattle.life_cells.specs.Cells.{Cells, alive}
 use Rattle.life_io.specs.Texts.{HeldText}
 use Rattle.life_rle.specs.Text.{Means}
@@ -37,18 +37,19 @@ use Rattle.build_plan.specs.Stops.{PlanStops}
 use Rattle.life_cli.specs.declared.status.Which.{Which}
 use Rattle.life_cli.specs.declared.status.Status.{Status}
 use Rattle.life_cli.specs.declared.status.Status.TheVariants.{TooLong, BadRle, BadBookText, BadTarget, BadBook, NoPlan, StreamLong, BookFull}
-use Rattle.life_cli.specs.Requests.{Request}
-use Rattle.life_cli.specs.Requests.Request.{Check, Extend, Compile, Replay}
+use Rattle.life_sample.specs.Sample.{IsSample}
+use Rattle.life_words.specs.declared.command.Command.{Command}
+use Rattle.life_words.specs.declared.command.Command.TheVariants.{Check, Extend, Compile, Certify, Audit, Replay, Sample}
 use Rattle.life_cli.specs.Exact.{IsExact, AreExact}
 use Rattle.life_cli.specs.Book.{ReadsAsBook, PassesTests, TestsRefuse}
 use Rattle.life_cli.specs.Inputs.{IsHeld, Holds, FetchRefuses, IsUnread, BookTextStops, ReadsAsPattern, PatternTextStops}
 use Rattle.life_cli.specs.Extended.{ComesTo, FinderRefuses}
 use Rattle.life_cli.specs.Compiled.{TargetRefuses, HasPlan, PlanRefuses}
-use Rattle.life_cli.specs.Run.{stages_of}
+use Rattle.life_cli.specs.Commands.{IsUnknown, stages_of}
 use Rattle.life_cli.proofs.OneBook.{OneTurns, OneSalvos, OneHits, one_book}
 
 -- the laws of the parts: a text says one book and means one plane, one that is read has no refusal, and neither has a target or a book that passes
--- its tests; such a book is one; and where it has a plan, planning doesn't stop
+-- its tests; such a book is one, and so is a sample; and where a book has a plan, planning doesn't stop
 pub record PartsAreExact : Type 0 where
   pub one_book : (text : List ℕ) (a b : Said) → Says text a → Says text b → a ≡ b
   pub book_read : (text : List ℕ) (said : Said) (e : book.BookError) → Says text said → (said.settings.wall +ℤ WALL_MARGIN) ≤ℤ said.settings.reach → StopsWith text e → e ≡ book.TheVariants.Memory
@@ -64,6 +65,7 @@ pub record PartsAreExact : Type 0 where
   pub one_whole : (book a b : Said) (budget : ℕ) → AllByRecursion IsProperKind book.kinds → AreValid book.settings book.kinds → IsExtended book budget a → IsExtended book budget b → a ≡ b
   pub not_full : (book whole : Said) (budget : ℕ) (e : FindError) → AllByRecursion IsProperKind book.kinds → AreValid book.settings book.kinds → IsExtended book budget whole → HasRoom whole →
       FindingIsRefused book budget e → e ≡ found.Memory
+  pub one_sample : (count gap : ℕ) (book other : Said) → IsSample count gap book → IsSample count gap other → book ≡ other
   pub no_stop : (book : CheckedEntries) (target : Plane) (plan : Plan) (e : PlanError) → IsPlan book target plan → PlanStops book target e → e ≡ stop.Memory
 
 -- ---- texts
@@ -141,14 +143,14 @@ finder_is_exact x book budget = record {
     apart whole (BookFull what count) h r = let is = x.not_full (said_of book) whole budget (found.BookFull what count) h.kinds h.valid h.extended h.room r in cc
     apart whole other h r = absurd r
 
--- ---- requests
+-- ---- commands
 
-pub requests_are_exact : PartsAreExact → (texts : List HeldText) (request : Request) → AreExact (stages_of (Some texts) request)
-requests_are_exact x texts (Check book) =
+pub commands_are_exact : PartsAreExact → (texts : List HeldText) (command : Command) → AreExact (stages_of (Some texts) command)
+commands_are_exact x texts (Check book) =
     (input_is_exact ReadsAsBook BookTextStops texts book _ (book_is_exact x), λ said. (tests_are_exact x said, λ checked. tt))
-requests_are_exact x texts (Extend book n) =
+commands_are_exact x texts (Extend book n) =
     (input_is_exact ReadsAsBook BookTextStops texts book _ (book_is_exact x), λ said. (tests_are_exact x said, λ checked. (finder_is_exact x checked n, λ whole. tt)))
-requests_are_exact x texts (Compile book target) = (
+commands_are_exact x texts (Compile book target) = (
   input_is_exact ReadsAsBook BookTextStops texts book _ (book_is_exact x),
   λ said. (
     input_is_exact ReadsAsPattern (PatternTextStops _) texts target _ (pattern_is_exact x _),
@@ -158,4 +160,13 @@ requests_are_exact x texts (Compile book target) = (
     ),
   ),
 )
-requests_are_exact x texts (Replay pattern n) = (input_is_exact ReadsAsPattern (PatternTextStops _) texts pattern _ (pattern_is_exact x _), λ s. tt)
+commands_are_exact x texts (Replay pattern n) = (input_is_exact ReadsAsPattern (PatternTextStops _) texts pattern _ (pattern_is_exact x _), λ s. tt)
+commands_are_exact x texts (Certify book target) = (test_is_exact ⊥ IsUnknown (λ status h r. h), λ _. tt)
+commands_are_exact x texts (Audit book target cert) = (test_is_exact ⊥ IsUnknown (λ status h r. h), λ _. tt)
+commands_are_exact x texts (Sample count gap) = (
+  record { one = λ a b h k. x.one_sample count gap a b h k; apart = λ said status h r. r },
+  λ said. (
+    test_is_exact (IsTarget nothing) (TargetRefuses nothing) (target_apart x nothing),
+    λ _. (tests_are_exact x said, λ checked. (test_is_exact (HasPlan checked nothing) (PlanRefuses checked nothing) (plan_apart x checked nothing), λ _. tt)),
+  ),
+)

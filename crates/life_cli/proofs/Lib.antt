@@ -1,6 +1,5 @@
 -- Lemmas of the top call.
-mod WordLists
-mod Asking
+mod Asked
 mod StageLaws
 mod Notes
 mod Titles

@@ -5,7 +5,7 @@ use Rattle.std.specs.declared.result.Result.{Result}
 use Rattle.std.specs.Result.{IsErrAnd}
 use Rattle.std.proofs.Common.{◌≡◌, ℕ, ◌+◌, ◌≤◌, List, IfOk, IfErr, Ok, Err, sym, subst, inl, inr, arith}
 use Rattle.life_cli.specs.declared.status.Status.{Status}
-use Rattle.life_cli.specs.declared.status.Status.TheVariants.{Done, Words, ReadFault, WriteFault, Memory}
+use Rattle.life_cli.specs.declared.status.Status.TheVariants.{Done, ReadFault, WriteFault, Memory}
 use Rattle.life_cli.specs.Stages.{Stages, Give, Refuse, Pass, CountWithin, HasCause, EndWith}
 use Rattle.life_cli.specs.Stages.Stages.{Answer, Stage}
 use Rattle.life_cli.specs.Exact.{AreExact}
@@ -17,7 +17,6 @@ pub cause_of : {F G : Type 0} (W V : Status → Type 0) → (F → G) → ((stat
 cause_of W V f w Memory h = tt
 cause_of W V f w ReadFault h = f h
 cause_of W V f w Done h = absurd h
-cause_of W V f w (Words e) h = absurd h
 cause_of W V f w WriteFault h = absurd h
 cause_of W V f w other h = w other h
 
@@ -70,6 +69,14 @@ behind {Value} {Passes} {Refuses} {most} {next} {F} {G} {before} {mid} {now} {re
     refused : (r : Result (Vec ℕ Global) Status) → IfErr r (λ status. HasCause F (Refuse (next value)) status) → IfErr r (λ status. HasCause G (Refuse (Stage Value Passes Refuses most next)) status)
     refused (Ok bytes) h = tt
     refused (Err status) h = cause_of (Refuse (next value)) (Refuse (Stage Value Passes Refuses most next)) f (λ s r. inr (value, (passes, r))) status h
+
+-- stages without texts have no fault of reading
+pub no_text : (stages : Stages) (F : Type 0) (before now : ℕ) (result : Result (Vec ℕ Global) Status) → EndWith stages ⊥ before now result → EndWith stages F before now result
+no_text stages F before now result end = record { ok = end.ok; err = caused result end.err; counted = end.counted }
+  where
+    caused : (r : Result (Vec ℕ Global) Status) → IfErr r (λ status. HasCause ⊥ (Refuse stages) status) → IfErr r (λ status. HasCause F (Refuse stages) status)
+    caused (Ok bytes) h = tt
+    caused (Err status) h = cause_of (Refuse stages) (Refuse stages) (λ f. absurd f) (λ s r. r) status h
 
 -- ---- exact stages
 

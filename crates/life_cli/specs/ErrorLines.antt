@@ -10,7 +10,7 @@ use Rattle.life_rle.specs.declared.error.RleError as rle
 use Rattle.book_read.specs.declared.error.BookError as book
 use Rattle.book_lines.specs.declared.fault.LineFault as fault
 use Rattle.book_lines.specs.Words.{word_text}
-use Rattle.life_cli.specs.declared.words.WordsError as words
+use Rattle.life_words.specs.declared.refusal.WordsError as words
 use Rattle.life_cli.specs.declared.status.Which.{Which}
 use Rattle.life_cli.specs.declared.status.Which.TheVariants.{Book, Target, Pattern}
 use Rattle.life_target.specs.declared.refusal.TargetError as target
@@ -29,12 +29,14 @@ which_text Pattern = codes "pattern"
 abbrev pub cell_text : Cell → List ℕ
 cell_text cell = signed_decimal cell.x ++ (codes " " ++ signed_decimal cell.y)
 
+-- why words are no command; the last is no text of a status
 abbrev pub words_text : words.WordsError → List ℕ
 words_text words.TheVariants.NoCommand = codes "words none"
 words_text (words.TheVariants.Dash place) = codes "words dash " ++ decimal place
 words_text words.TheVariants.UnknownCommand = codes "words unknown"
 words_text words.TheVariants.WrongCount = codes "words count"
 words_text (words.TheVariants.BadNumber place) = codes "words number " ++ decimal place
+words_text words.TheVariants.Memory = codes "memory"
 
 -- what is wrong with a pattern's text; the last is no text of a status
 abbrev pub rle_text : rle.RleError → List ℕ

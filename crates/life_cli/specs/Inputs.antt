@@ -1,4 +1,4 @@
--- The texts of a request: fetched by their names, and read. Where the depot tells no texts, the text of a name is some text.
+-- The texts of a command: fetched by their names, and read. Where the depot tells no texts, the text of a name is some text.
 use Rattle.std.specs.Prelude.{◌≡◌, ◌≢◌, ◌⊎◌, ℕ, ◌<◌, ◌≤◌, ◌^◌, List, length, IfSome, Some}
 use Rattle.std.specs.declared.option.Option.{Option}
 use Rattle.life_plane.specs.Plane.{Plane}

@@ -1,6 +1,4 @@
 -- What the program answers.
-pub mod Words
-pub mod Requests
 pub mod Stages
 pub mod Exact
 pub mod Book
@@ -8,9 +6,11 @@ pub mod Inputs
 pub mod Extended
 pub mod Compiled
 pub mod Replayed
+pub mod Sampled
 pub mod Verdicts
 pub mod Statuses
 pub mod Putting
+pub mod Commands
 pub mod Run
 pub mod ErrorLines
 pub mod Complete

@@ -1,9 +1,9 @@
--- A request is a list of stages that leads to an answer. The stages that pass and the one that refuses, and what a run of them comes to.
+-- A command is a list of stages that leads to an answer. The stages that pass and the one that refuses, and what a run of them comes to.
 use Rattle.std.specs.Prelude.{◌⊎◌, ℕ, ◌+◌, ◌≤◌, List, IfOk, IfErr, Vec}
 use Rattle.std.specs.declared.alloc.Global.{Global}
 use Rattle.std.specs.declared.result.Result.{Result}
 use Rattle.life_cli.specs.declared.status.Status.{Status}
-use Rattle.life_cli.specs.declared.status.Status.TheVariants.{Done, Words, ReadFault, WriteFault, Memory}
+use Rattle.life_cli.specs.declared.status.Status.TheVariants.{Done, ReadFault, WriteFault, Memory}
 
 pub data Stages : Type 1 where
   -- the last: bytes of which this holds are the answer; it counts so many generations at most
@@ -35,13 +35,12 @@ abbrev pub CountWithin : Stages → ℕ → ℕ → Type 0
 CountWithin (Answer most Is) before now = now ≤ before + most
 CountWithin (Stage Value Passes Refuses most next) before now = (now ≤ before + most) ⊎ ((value : Value) × (Passes value × CountWithin (next value) (before + most) now))
 
--- why stages give no answer: want of memory is free, a fault of reading has a cause of its own, and any other status is that of a refusal; none is Done, of the
--- words, or of writing
+-- why stages give no answer: want of memory is free, a fault of reading has a cause of its own, and any other status is that of a refusal; none is Done or of
+-- writing
 abbrev pub HasCause : Type 0 → (Status → Type 0) → Status → Type 0
 HasCause Fault Refuses Memory = Unit {0}
 HasCause Fault Refuses ReadFault = Fault
 HasCause Fault Refuses Done = ⊥
-HasCause Fault Refuses (Words e) = ⊥
 HasCause Fault Refuses WriteFault = ⊥
 HasCause Fault Refuses other = Refuses other
 

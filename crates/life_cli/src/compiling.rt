@@ -1,13 +1,15 @@
 //! The command `compile`.
 
 ghost use Rattle.std.specs.Prelude.{◌≡◌, ◌≢◌, ℕ, ◌+◌, ◌≤◌, ◌^◌, IfOk, IfErr};
-ghost use Rattle.life_plane.specs.Plane.{run};
+ghost use Rattle.life_plane.specs.Plane.{Plane, run};
 ghost use Rattle.life_cells.specs.Cells.{alive};
 ghost use Rattle.life_cells.specs.Boxes.{IsInRange};
 ghost use Rattle.life_target.specs.Targets.{IsTarget};
 ghost use Rattle.life_io.specs.Counts.{IsLaterCount, Rose};
 ghost use Rattle.life_io.specs.Texts.{Holds};
 ghost use Rattle.book_parts.specs.Proper.{IsProperBook};
+ghost use Rattle.recipe_book.specs.Checked.{CheckedEntries};
+ghost use Rattle.build_plan.specs.Stops.{PlanStops};
 ghost use Rattle.stream_build.specs.Built.{IsBuilt};
 ghost use Rattle.life_cli.specs.Stages.{HasCause, EndWith};
 ghost use Rattle.life_cli.specs.Compiled.{TargetRefuses, PlanRefuses, planning, building, compile};
@@ -28,7 +30,7 @@ use std::sync::ledger::Ledger;
 use stream_build::{Built, compile as build};
 
 /// Refuses a set of cells that is no target.
-fn target_of<L: Ledger>(
+pub(crate) fn target_of<L: Ledger>(
     alloc: Global,
     cells: CellSet,
     steps: &mut Steps<L>,
@@ -47,6 +49,20 @@ fn target_of<L: Ledger>(
     }
 }
 
+/// The status of a stop of planning.
+pub(crate) fn stopped(stop: PlanError) -> Status
+    ensures { (book : CheckedEntries) (target : Plane) → PlanStops book target stop → HasCause ⊥ (PlanRefuses book target) result }
+{
+    match stop {
+        PlanError::Memory => Status::Memory,
+        PlanError::StreamLong { count } => Status::StreamLong { count },
+        PlanError::NoRecipe { island, at } => Status::NoPlan(PlanError::NoRecipe { island, at }),
+        PlanError::NoClosing { kind, shift } => {
+            Status::NoPlan(PlanError::NoClosing { kind, shift })
+        }
+    }
+}
+
 /// What a checked book builds for a target.
 fn plan(alloc: Global, book: &CheckedBook, target: &Target) -> Result<Built, Status>
     ensures ok { IfOk result (λ built. IsBuilt book.now (alive target.now) built) }
@@ -56,14 +72,7 @@ fn plan(alloc: Global, book: &CheckedBook, target: &Target) -> Result<Built, Sta
 {
     match build(alloc, book, target) {
         Ok(built) => Ok(built),
-        Err(PlanError::Memory) => Err(Status::Memory),
-        Err(PlanError::StreamLong { count }) => Err(Status::StreamLong { count }),
-        Err(PlanError::NoRecipe { island, at }) => {
-            Err(Status::NoPlan(PlanError::NoRecipe { island, at }))
-        }
-        Err(PlanError::NoClosing { kind, shift }) => {
-            Err(Status::NoPlan(PlanError::NoClosing { kind, shift }))
-        }
+        Err(stop) => Err(stopped(stop)),
     }
 }
 

@@ -5,11 +5,11 @@ ghost use Rattle.std.specs.String.{string_bytes};
 ghost use Rattle.life_cli.specs.ErrorLines.{which_text, words_text, rle_text, fault_text, book_text, target_text, refusal_text, plan_text, full_text, status_text, error_line};
 
 use crate::status::{Status, Which};
-use crate::words::WordsError;
 use book_text::{BookError, LineFault};
 use build_plan::PlanError;
 use life_rle::RleError;
 use life_target::TargetError;
+use life_words::WordsError;
 use recipe_book::BookRefusal;
 use recipe_find::Full;
 use std::alloc::{AllocError, Global};
@@ -33,6 +33,7 @@ fn words_text(alloc: Global, refusal: WordsError) -> Result<String, AllocError>
         WordsError::UnknownCommand => String::from_str(alloc, "words unknown"),
         WordsError::WrongCount => String::from_str(alloc, "words count"),
         WordsError::BadNumber { place } => format!(in alloc; "words number {place}"),
+        WordsError::Memory => String::from_str(alloc, "memory"),
     }
 }
 

@@ -9,13 +9,14 @@ ghost use Rattle.life_cli.specs.Complete.{IsDue, IsDoneBut};
 ghost use Rattle.life_cli.specs.ErrorLines.{Gains, HasLine, without_line};
 ghost use Rattle.life_cli.specs.declared.status.Status.TheVariants.{Done};
 
+use crate::answering::answer;
 use crate::laws::passing_stages_do_not_refuse;
 use crate::lines::error_line;
-use crate::requests::answer;
 use crate::status::Status;
-use crate::words::read_words;
 use life_io::{Depot, PutError, Sink};
 use life_steps::Steps;
+use life_words::laws::{asking_words_are_not_refused, words_ask_for_one_command};
+use life_words::{WordsError, read_words};
 use std::alloc::Global;
 use std::sync::ledger::Ledger;
 
@@ -55,8 +56,9 @@ fn run_command<D: Depot, O: Sink, L: Ledger>(
     ensures depot_stays_quiet { D.quiet depot.old → D.quiet depot.new }
     ensures out_stays_quiet { O.quiet out.old → O.quiet out.new }
 {
-    let command = match read_words(words) {
+    let command = match read_words(alloc, words) {
         Ok(command) => command,
+        Err(WordsError::Memory) => return Status::Memory,
         Err(refusal) => return Status::Words(refusal),
     };
     match answer(alloc, &command, depot, steps) {
@@ -146,7 +148,9 @@ pub fn life_run<D: Depot, O: Sink, E: Sink, L: Ledger>(
     ensures write_count { O.faults out.old ≤ O.faults out.new }
     ensures line_count { E.faults err.old ≤ E.faults err.new }
 {
-    // This says that where each stage passes none refuses; it does nothing.
+    // These say that words ask for one command and aren't refused then, and that where each stage passes none refuses; they do nothing.
+    words_ask_for_one_command();
+    asking_words_are_not_refused();
     passing_stages_do_not_refuse();
     let status = run_command(alloc, words, depot, out, steps);
     report(alloc, status, err)

@@ -4,12 +4,12 @@ ghost use Rattle.std.specs.Prelude.{◌≡◌};
 ghost use Rattle.life_cli.specs.Statuses.{number_of};
 ghost use Rattle.life_cli.specs.declared.status.Status.TheVariants.{Memory};
 
-use crate::words::WordsError;
 use book_text::BookError;
 use build_plan::PlanError;
 use life_cells::NoMemory;
 use life_rle::RleError;
 use life_target::TargetError;
+use life_words::WordsError;
 use recipe_book::BookRefusal;
 use recipe_find::Full;
 use std::alloc::AllocError;

@@ -1,4 +1,4 @@
-use Rattle.life_cli.proofs.Exactness.{PartsAreExact, requests_are_exact}
+use Rattle.life_cli.proofs.Exactness.{PartsAreExact, commands_are_exact}
 use Rattle.life_cli.proofs.laws.stages_are_exact.Goals as goal
 
 pub returns : goal.returns
@@ -15,6 +15,7 @@ returns c =
       book_taken = c.taken_books_have_no_refusal.ensures;
       one_whole = c.extended_books_are_one.ensures;
       not_full = c.books_with_room_are_not_refused.ensures;
+      one_sample = c.samples_are_one.ensures;
       no_stop = c.plans_have_no_stop.ensures;
     } in
-    requests_are_exact exact
+    commands_are_exact exact

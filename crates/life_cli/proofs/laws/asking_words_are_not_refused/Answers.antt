@@ -1,5 +1,0 @@
-use Rattle.life_cli.proofs.Asking.{not_refused}
-use Rattle.life_cli.proofs.laws.asking_words_are_not_refused.Goals as goal
-
-pub returns : goal.returns
-returns c = not_refused

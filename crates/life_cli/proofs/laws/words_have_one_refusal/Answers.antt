@@ -1,5 +1,0 @@
-use Rattle.life_cli.proofs.Asking.{one_refusal}
-use Rattle.life_cli.proofs.laws.words_have_one_refusal.Goals as goal
-
-pub returns : goal.returns
-returns c = one_refusal

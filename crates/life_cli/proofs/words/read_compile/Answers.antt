@@ -1,8 +1,0 @@
-use Rattle.std.proofs.Common.{refl}
-use Rattle.std.specs.Prelude.{codes}
-use Rattle.life_cli.specs.Words as usage
-use Rattle.life_cli.proofs.WordLists.{miscounted}
-use Rattle.life_cli.proofs.words.read_compile.Goals as goal
-
-pub returns-in-None-clause-err : goal.returns-in-None-clause-err
-returns-in-None-clause-err c = miscounted c.args.words.now (codes "compile") usage.compile c.requires refl c.in-None.ensures.none
