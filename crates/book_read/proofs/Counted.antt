@@ -11,7 +11,7 @@ use Rattle.book_lines.specs.Values.{body_count}
 use Rattle.book_lines.specs.Counts.{delay_count, lane_count, cell_count, product_count}
 use Rattle.book_lines.specs.declared.limit.Limit.TheVariants.{Count}
 use Rattle.book_read.specs.Stated.{Stated, cells_of, product_of, joined}
-use Rattle.book_read.specs.Limited.{Limited, held, numbers, counts, stated_cells, IsFirstOutside, IsOver}
+use Rattle.book_read.specs.Limited.{Limited, held, numbers, counts, stated_cells, AreFew, IsFirstOutside, IsOver}
 use Rattle.book_parts.specs.declared.limits.TheConstants.{MOST_CELLS, MOST_DELAYS, MOST_KINDS, MOST_LANES, MOST_SALVOS, MOST_TURNS}
 
 pub behind_none : (ns ms : List Limited) → IsFirstOutside (ns ++ ms) None → IsFirstOutside ms None
@@ -26,15 +26,6 @@ front_none (n ∷ ns) ms (inr h) = absurd (cc h.1)
 
 at_most : (n most : ℕ) → pos n ≤ℤ pos most → n ≤ most
 at_most n most h = omega (arith, ints)
-
--- the counts, with one statement more
-pub record AreFew (stated : Stated) (s : Statement) : Type 0 where
-  pub kinds : length (joined stated s).kinds ≤ MOST_KINDS
-  pub turns : length (joined stated s).turns ≤ MOST_TURNS
-  pub salvos : length (joined stated s).salvos ≤ MOST_SALVOS
-  pub delays : delay_count s ≤ MOST_DELAYS
-  pub lanes : lane_count s ≤ MOST_LANES
-  pub cells : stated_cells stated + cell_count s ≤ MOST_CELLS
 
 counted : (most n : ℕ) (ns : List Limited) → IsFirstOutside (held (Count most) (pos n) ∷ ns) None → (n ≤ most) × IsFirstOutside ns None
 counted most n ns (inl h) = (at_most n most h.0, h.1)

@@ -1,5 +1,5 @@
 -- A line's numbers and the counts that it raises, held against their limits.
-use Rattle.std.specs.Prelude.{◌≡◌, ℕ, ◌+◌, ◌⊎◌, ℤ, pos, List, [], ◌∷◌, ◌++◌, length, map, sum_by, flat_map, Option}
+use Rattle.std.specs.Prelude.{◌≡◌, ℕ, ◌+◌, ◌≤◌, ◌⊎◌, ℤ, pos, List, [], ◌∷◌, ◌++◌, length, map, sum_by, flat_map, Option}
 use Rattle.std.specs.declared.option.Option.TheVariants.{Some, None}
 use Rattle.std.specs.List.{zip}
 use Rattle.life_cells.specs.Cells.{Cells, in_order}
@@ -85,6 +85,15 @@ counts stated s =
     ∷ (held (limit.Count MOST_DELAYS) (pos (delay_count s))
     ∷ (held (limit.Count MOST_LANES) (pos (lane_count s))
     ∷ (held (limit.Count MOST_CELLS) (pos (stated_cells stated + cell_count s)) ∷ [])))))
+
+-- no count passes its limit with this line
+pub record AreFew (stated : Stated) (s : Statement) : Type 0 where
+  pub kinds : length (joined stated s).kinds ≤ MOST_KINDS
+  pub turns : length (joined stated s).turns ≤ MOST_TURNS
+  pub salvos : length (joined stated s).salvos ≤ MOST_SALVOS
+  pub delays : delay_count s ≤ MOST_DELAYS
+  pub lanes : lane_count s ≤ MOST_LANES
+  pub cells : stated_cells stated + cell_count s ≤ MOST_CELLS
 
 -- the first of these that is outside its limit is this number; none is, where there is no number
 abbrev pub IsFirstOutside : List Limited → Option ℤ → Type 0

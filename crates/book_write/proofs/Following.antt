@@ -30,7 +30,7 @@ use Rattle.book_parts.specs.declared.settings.Range.{Range}
 use Rattle.std.specs.Map.{update}
 use denote.Enum.Bare.{sameb}
 use Rattle.book_read.specs.Stated.{Stated, nothing_stated, coordinates, range_numbers, setting_numbers, joined, end_of, turn_of, salvo_of}
-use Rattle.book_read.specs.Limited.{held, setting_limited, end_numbers, place_numbers, product_numbers, IsOver, stated_cells}
+use Rattle.book_read.specs.Limited.{held, setting_limited, end_numbers, place_numbers, product_numbers, AreFew, IsOver, stated_cells}
 use Rattle.book_read.specs.Names.{number_of}
 use Rattle.book_read.specs.Joining.{IsNew, KnowsKinds, kinds_of_end}
 use Rattle.book_read.specs.Reading.{AreFine}
@@ -41,7 +41,7 @@ use Rattle.book_write.specs.Canonical.{IsBookText}
 use Rattle.book_write.proofs.Visible.{IsWord}
 use Rattle.book_write.proofs.Splitting.{words_are, lines_are}
 use Rattle.book_write.proofs.Numerals.{IsShort, short_from}
-use Rattle.book_write.proofs.Within.{IsHeld, AreFew, not_over, each_held, body_held}
+use Rattle.book_write.proofs.Within.{IsHeld, not_over, each_held, body_held}
 use Rattle.book_write.proofs.Stating.{IsLineFor, AreWritable, setting_line_for, range_order, short_coordinate, hand_line, elbow_of, kind_line, start_line, named_end_of, turn_told, HasNext, turn_line, salvo_told, salvo_line}
 use Rattle.book_write.proofs.Distinct.{none_before, kind_known, name_of_kind}
 use Rattle.life_plane.specs.ListLaws.{all_append}

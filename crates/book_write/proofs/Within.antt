@@ -13,7 +13,7 @@ use Rattle.book_lines.specs.Counts.{delay_count, lane_count, cell_count}
 use Rattle.book_lines.specs.declared.limit.Limit.{Limit}
 use Rattle.book_lines.specs.Limits.{IsWithin}
 use Rattle.book_read.specs.Stated.{Stated, joined}
-use Rattle.book_read.specs.Limited.{Limited, held, cell_numbers, numbers, counts, stated_cells, IsFirstOutside, IsOver}
+use Rattle.book_read.specs.Limited.{Limited, held, cell_numbers, numbers, counts, stated_cells, AreFew, IsFirstOutside, IsOver}
 use Rattle.life_plane.specs.ListLaws.{all_append}
 use Rattle.book_parts.specs.declared.limits.TheConstants.{MOST_CELLS, MOST_DELAYS, MOST_KINDS, MOST_LANES, MOST_SALVOS, MOST_TURNS}
 
@@ -26,15 +26,6 @@ none_outside (n ∷ ns) h = inl (h.0, none_outside ns h.1)
 
 counted : (n most : ℕ) → n ≤ most → pos n ≤ℤ pos most
 counted n most h = omega (arith, ints)
-
--- the counts with a line
-pub record AreFew (stated : Stated) (s : Statement) : Type 0 where
-  pub kinds : length (joined stated s).kinds ≤ MOST_KINDS
-  pub turns : length (joined stated s).turns ≤ MOST_TURNS
-  pub salvos : length (joined stated s).salvos ≤ MOST_SALVOS
-  pub delays : delay_count s ≤ MOST_DELAYS
-  pub lanes : lane_count s ≤ MOST_LANES
-  pub cells : stated_cells stated + cell_count s ≤ MOST_CELLS
 
 pub not_over : (stated : Stated) (s : Statement) → AllByRecursion IsHeld (numbers s) → AreFew stated s → IsOver stated s None
 not_over stated s h few =

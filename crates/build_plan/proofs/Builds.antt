@@ -21,7 +21,7 @@ use Rattle.plan_facts.specs.State.{State, first_state}
 use Rattle.plan_facts.specs.State.Hand.{Gone}
 use Rattle.plan_facts.specs.Facts.{IsConstruction}
 use Rattle.build_plan.specs.declared.event.Event.{Event}
-use Rattle.build_plan.specs.declared.plan.Plan.{Plan}
+use Rattle.build_plan.specs.declared.event.Plan.{Plan}
 use Rattle.build_plan.specs.Fits.{Fits, IsOneOfThem, island_at, IsOutside}
 use Rattle.build_plan.specs.Stand.{Stand}
 use Rattle.build_plan.specs.Usable.{Taken, stand_after}

@@ -11,7 +11,7 @@ use Rattle.recipe_book.specs.Checked.{CheckedEntries}
 use Rattle.build_plan.specs.declared.draft.Draft.{Draft}
 use Rattle.build_plan.specs.declared.event.Event.{Event}
 use Rattle.build_plan.specs.declared.placing.Placing.{Placing}
-use Rattle.build_plan.specs.declared.plan.Plan.{Plan}
+use Rattle.build_plan.specs.declared.event.Plan.{Plan}
 use Rattle.build_plan.specs.Drafts.{stand_at, IsWholeDraft}
 use Rattle.build_plan.specs.Placing.{back_of}
 use Rattle.build_plan.specs.Plan.{most_gliders, taken_events, Course, IsCourse, all_events, gliders_in, IsPlanFor}

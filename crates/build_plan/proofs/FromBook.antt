@@ -16,7 +16,7 @@ use Rattle.recipe_turn.specs.Turn.{IsSound}
 use Rattle.recipe_hit.specs.Checked as hit
 use Rattle.recipe_hit.specs.Checked.{Struck}
 use Rattle.recipe_hit.specs.Sound as salvo
-use Rattle.recipe_hit.specs.declared.hit.Hit.{Hit}
+use Rattle.recipe_hit.specs.declared.frame.Hit.{Hit}
 use Rattle.recipe_book.specs.Checked.{CheckedEntries, IsCheckedBook, IsAt}
 use Rattle.plan_facts.specs.MayTurn.{IsSoundHere}
 use Rattle.build_plan.proofs.Goes.{AreSoundTurns}

@@ -18,7 +18,7 @@ use Rattle.hand_route.specs.Rooms.{IsRoom}
 use Rattle.build_plan.specs.Placing.{IsEmptyPlacing, IsBoxPlacing, IsPlacing, moved_target}
 use Rattle.build_plan.specs.Plan.{IsPlanFor, IsPlan}
 use Rattle.build_plan.specs.Stops.{StopsFor, PlanStops}
-use Rattle.build_plan.specs.declared.plan.Plan.{Plan}
+use Rattle.build_plan.specs.declared.event.Plan.{Plan}
 use Rattle.build_plan.specs.declared.error.PlanError.{PlanError}
 use Rattle.build_plan.specs.declared.error.PlanError.TheVariants.{NoRecipe, NoClosing, StreamLong, Memory}
 use Rattle.build_plan.specs.declared.placing.Placing.{Placing}

@@ -12,10 +12,10 @@ use Rattle.life_islands.specs.declared.island.Island.{Island}
 use Rattle.book_parts.specs.declared.turn.RawTurn.{RawTurn}
 use Rattle.elbow_graph.specs.declared.elbow.Elbow.{Elbow}
 use Rattle.recipe_turn.specs.Checked.{raws}
-use Rattle.recipe_hit.specs.declared.hit.Hit as struck
+use Rattle.recipe_hit.specs.declared.frame.Hit as struck
 use Rattle.recipe_book.specs.Checked.{CheckedEntries, IsCheckedBook}
 use Rattle.build_plan.specs.declared.event.Event.{Event}
-use Rattle.build_plan.specs.declared.plan.Plan.{Plan}
+use Rattle.build_plan.specs.declared.event.Plan.{Plan}
 use Rattle.build_plan.specs.Numbers.{item_of}
 use Rattle.build_plan.specs.NumberLaws.{item_numbered}
 use Rattle.build_plan.specs.TurnEvents.{elbow_past, turn_events}

@@ -15,12 +15,12 @@ use Rattle.elbow_graph.specs.Numbered.{IsNumbered}
 use Rattle.elbow_graph.specs.NumberedLaws.{turn_numbered, numbered_from_at}
 use Rattle.recipe_turn.specs.Checked.{raws}
 use Rattle.recipe_hit.specs.Checked.{Struck}
-use Rattle.recipe_hit.specs.declared.hit.Hit.{Hit}
+use Rattle.recipe_hit.specs.declared.frame.Hit.{Hit}
 use Rattle.recipe_book.specs.Checked.{CheckedEntries}
 use Rattle.hand_route.specs.Lists.{IsHandList, IsFarewell}
 use Rattle.build_plan.specs.declared.event.Event.{Event}
 use Rattle.build_plan.specs.declared.throw.Throw.{Throw}
-use Rattle.build_plan.specs.declared.plan.Plan.{Plan}
+use Rattle.build_plan.specs.declared.event.Plan.{Plan}
 use Rattle.build_plan.specs.Numbers.{item_of}
 use Rattle.build_plan.specs.NumberLaws.{item_numbered}
 use Rattle.build_plan.specs.TurnEvents.{elbow_past, elbow_after, turn_events}

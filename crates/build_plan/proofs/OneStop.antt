@@ -23,7 +23,7 @@ use Rattle.build_plan.specs.declared.event.Event.{Event}
 use Rattle.build_plan.specs.declared.error.PlanError.{PlanError}
 use Rattle.build_plan.specs.declared.error.PlanError.TheVariants.{NoRecipe, NoClosing, StreamLong, Memory}
 use Rattle.build_plan.specs.declared.placing.Placing.{Placing}
-use Rattle.build_plan.specs.declared.plan.Plan.{Plan}
+use Rattle.build_plan.specs.declared.event.Plan.{Plan}
 use Rattle.build_plan.specs.Placing.{IsPlacing, moved_target, to_corner, room_about}
 use Rattle.build_plan.specs.Stand.{Stand}
 use Rattle.build_plan.specs.TurnEvents.{turn_events}

@@ -18,7 +18,7 @@ use Rattle.lane_clear.specs.Frames.{moved_frame}
 use Rattle.hand_route.specs.Moves.{moved_by}
 use Rattle.recipe_hit.specs.Checked.{Struck}
 use Rattle.recipe_hit.specs.Sound.{IsSound}
-use Rattle.recipe_hit.specs.declared.hit.Hit.{Hit}
+use Rattle.recipe_hit.specs.declared.frame.Hit.{Hit}
 use Rattle.plan_facts.specs.Happenings.{SalvoHit}
 use Rattle.plan_facts.specs.State.{State, Hand, first_hand}
 use Rattle.plan_facts.specs.State.Hand.{Rests, Under}

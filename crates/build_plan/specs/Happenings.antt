@@ -6,7 +6,7 @@ use Rattle.plan_facts.specs.Happenings.{Salvo, SalvoHit, Happening}
 use Rattle.plan_facts.specs.Happenings.Happening.{Turns, Hits}
 use Rattle.recipe_turn.specs.Checked.{raws}
 use Rattle.recipe_hit.specs.Checked.{Struck}
-use Rattle.recipe_hit.specs.declared.hit.Hit as hits
+use Rattle.recipe_hit.specs.declared.frame.Hit as hits
 use Rattle.book_parts.specs.declared.turn.RawTurn.{RawTurn}
 use Rattle.recipe_book.specs.Checked.{CheckedEntries}
 use Rattle.build_plan.specs.declared.event.Event.{Event}

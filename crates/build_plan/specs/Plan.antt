@@ -12,7 +12,7 @@ use Rattle.recipe_turn.specs.Checked.{raws}
 use Rattle.recipe_book.specs.Checked.{CheckedEntries}
 use Rattle.elbow_route.specs.Lists.{IsLeastClosing}
 use Rattle.build_plan.specs.declared.event.Event.{Event}
-use Rattle.build_plan.specs.declared.plan.Plan.{Plan}
+use Rattle.build_plan.specs.declared.event.Plan.{Plan}
 use Rattle.build_plan.specs.declared.placing.Placing.{Placing}
 use Rattle.build_plan.specs.TurnEvents.{turn_events, gliders_of}
 use Rattle.build_plan.specs.Stand.{Stand}

@@ -5,7 +5,7 @@ use Rattle.life_cells.specs.declared.cell.Cell.{Cell}
 use Rattle.life_islands.specs.declared.island.Island.{Island}
 use Rattle.build_plan.specs.declared.event.Event.{Event}
 use Rattle.build_plan.specs.declared.event.Event.TheVariants.{Turn, Hit}
-use Rattle.build_plan.specs.declared.plan.Plan.{Plan}
+use Rattle.build_plan.specs.declared.event.Plan.{Plan}
 
 -- one of the events is a hit
 abbrev pub HasHit : List Event → Type 0

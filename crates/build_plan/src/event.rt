@@ -1,4 +1,4 @@
-//! What a plan is made of.
+//! Plans, and what they are made of.
 
 use life_cells::Cell;
 
@@ -21,4 +21,15 @@ pub enum Event {
         /// Where the hand stands as the salvo begins.
         at: Cell,
     },
+}
+
+/// How a book builds a target.
+#[derive(Debug, Drop)]
+pub struct Plan {
+    /// Turns and hits, in their order.
+    pub events: Vec<Event>,
+    /// Where the first hand stands, if there is one.
+    pub first_hand: Option<Cell>,
+    /// The shift back to the target's own place.
+    pub back: Cell,
 }

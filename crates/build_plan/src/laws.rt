@@ -11,7 +11,7 @@ ghost use Rattle.recipe_book.specs.Checked.{CheckedEntries, IsCheckedBook};
 ghost use Rattle.plan_facts.specs.Happenings.{Happening};
 ghost use Rattle.plan_facts.specs.Facts.{IsConstruction};
 ghost use Rattle.build_plan.specs.Happenings.{AllStandFor, IsOfBook};
-ghost use Rattle.build_plan.specs.declared.plan.Plan.{Plan as Planned};
+ghost use Rattle.build_plan.specs.declared.event.Plan.{Plan as Planned};
 ghost use Rattle.build_plan.specs.declared.error.PlanError.{PlanError as Stop};
 ghost use Rattle.build_plan.specs.Plan.{IsPlan, SamePlan};
 ghost use Rattle.build_plan.specs.PlanHits.{HitsForIslands};

@@ -14,7 +14,6 @@ mod hands;
 pub mod laws;
 pub mod numbered;
 pub mod placing;
-pub mod plan;
 mod planner;
 pub mod planning;
 mod search;
@@ -26,6 +25,6 @@ mod walk;
 mod ways;
 
 pub use error::PlanError;
-pub use event::Event;
+pub use event::{Event, Plan};
 pub use life_target::Target;
-pub use plan::Plan;
+pub use planning::plan;

@@ -4,7 +4,7 @@ use Rattle.std.specs.List.{AllByRecursion}
 use Rattle.std.specs.declared.option.Option.TheVariants.{Some, None}
 use Rattle.std.proofs.lemmas.Int.{ints}
 use Rattle.std.proofs.lemmas.List.{reverse-append, take-append-drop, take-append-le}
-use Rattle.life_plane.specs.ListLaws.{all_append}
+use Rattle.life_plane.specs.ListLaws.{all_append, all_front, all_back}
 use Rattle.book_parts.specs.declared.settings.Settings.{Settings}
 use Rattle.book_parts.specs.declared.turn.RawTurn.{RawTurn}
 use Rattle.book_parts.specs.declared.turn.TurnEnd.{TurnEnd}
@@ -52,19 +52,11 @@ each_turned : {X : Type 0} (P : X → Type 0) (xs : List X) → AllByRecursion P
 each_turned P [] h = tt
 each_turned P (x ∷ xs) h = subst (AllByRecursion P) (sym (reverse-append (x ∷ []) xs)) (all_append P (reverse xs) (x ∷ []) (each_turned P xs h.1) (h.0, tt))
 
-first_all : {X : Type 0} (P : X → Type 0) (xs ys : List X) → AllByRecursion P (xs ++ ys) → AllByRecursion P xs
-first_all P [] ys h = tt
-first_all P (x ∷ xs) ys h = (h.0, first_all P xs ys h.1)
-
-last_all : {X : Type 0} (P : X → Type 0) (xs ys : List X) → AllByRecursion P (xs ++ ys) → AllByRecursion P ys
-last_all P [] ys h = h
-last_all P (x ∷ xs) ys h = last_all P xs ys h.1
-
 turned_each : {X : Type 0} (P : X → Type 0) (xs : List X) → AllByRecursion P (reverse xs) → AllByRecursion P xs
 turned_each P [] h = tt
 turned_each P (x ∷ xs) h =
     let both = subst (AllByRecursion P) (reverse-append (x ∷ []) xs) h in
-    ((last_all P (reverse xs) (x ∷ []) both).0, turned_each P xs (first_all P (reverse xs) (x ∷ []) both))
+    ((all_back P (reverse xs) (x ∷ []) both).0, turned_each P xs (all_front P (reverse xs) (x ∷ []) both))
 
 -- hits that are over are spared
 over_spared : (thrown : ℕ) (lane j : ℤ) (hits : List HitTime) → AreOver thrown hits → AllByRecursion (λ (hit : HitTime). IsSpared thrown lane j (been hit)) hits
@@ -100,7 +92,7 @@ module _ (settings : Settings) (past : History) (clock : Clock) (shows : Shows p
       by (Emit kind advance lane j) h =
           let P : HasBeen → Type 0 = IsSpared (start + turn.n) (lane +ℤ pos 2 *ℤ shift) (j -ℤ pos 4 *ℤ shift) in
           let all = turned_each (λ (hit : HitTime). P (been hit)) clock.hits.items (from_been P (reverse clock.hits.items) (subst (AllByRecursion P) shows.hits h)) in
-          last_all (λ (hit : HitTime). P (been hit)) (take clock.over clock.hits.items) live
+          all_back (λ (hit : HitTime). P (been hit)) (take clock.over clock.hits.items) live
           (subst (AllByRecursion (λ (hit : HitTime). P (been hit))) (sym (take-append-drop clock.over clock.hits.items)) all)
 
   then_may : (start : ℕ) → MayStartThen settings.reach clock.before clock.sent turn.n (emission_of turn.end shift) live start → MayHappen settings past (at start)

@@ -5,7 +5,7 @@ use Rattle.std.specs.declared.option.Option.TheVariants.{Some, None}
 use Rattle.std.proofs.Common.{sym, subst, arith, inl}
 use Rattle.std.proofs.lemmas.Int.{ints}
 use Rattle.std.proofs.lemmas.List.{take-append-drop}
-use Rattle.life_plane.specs.ListLaws.{all_push, all_weaker}
+use Rattle.life_plane.specs.ListLaws.{all_back, all_push, all_weaker}
 use Rattle.life_cells.specs.Boxes.{IsBoxInRange}
 use Rattle.life_cells.specs.declared.bounds.Bounds.{Bounds}
 use Rattle.book_parts.specs.Limits.{IsFrom, IsCoordinate}
@@ -27,14 +27,10 @@ use Rattle.event_times.specs.declared.clock.Clock.{Clock}
 use Rattle.event_times.specs.Clock.{emission_of, sent_after, AddsHit, TurnIsAdded, HitIsAdded}
 use Rattle.event_times.specs.Early.{IsNearShift, IsBy, latest, latest_end, longest_flight, IsEarlyTurn, IsEarlySent, IsEarlyHit, IsEarlyFrame, IsEarly}
 
-last_all : {X : Type 0} (P : X → Type 0) (xs ys : List X) → AllByRecursion P (xs ++ ys) → AllByRecursion P ys
-last_all P [] ys h = h
-last_all P (x ∷ xs) ys h = last_all P xs ys h.1
-
 -- the hits that are looked at
 live_early : (turns : ℕ) (clock : Clock) → IsEarly turns clock → AllByRecursion (IsEarlyHit (latest turns)) (drop clock.over clock.hits.items)
 live_early turns clock early =
-    last_all (IsEarlyHit (latest turns)) (take clock.over clock.hits.items) (drop clock.over clock.hits.items)
+    all_back (IsEarlyHit (latest turns)) (take clock.over clock.hits.items) (drop clock.over clock.hits.items)
     (subst (AllByRecursion (IsEarlyHit (latest turns))) (sym (take-append-drop clock.over clock.hits.items)) early.hits)
 
 wider : (box : Bounds) → IsBoxInRange (2 ^ 33) box → IsBoxInRange (2 ^ 56) box

@@ -2,7 +2,6 @@
 use Rattle.std.specs.Prelude.{◌≡◌, ◌⊎◌, true, ℕ, ◌+◌, ◌≤◌, ℤ, pos, negsuc, ◌+ℤ◌, ◌-ℤ◌, ◌*ℤ◌, ◌≤ℤ◌, ◌<ℤ◌, List, [], ◌∷◌, map, unsigned_abs}
 use Rattle.std.proofs.Common.{refl, sym, ap, subst, ◌∙◌, arith, inl, inr}
 use Rattle.std.proofs.lemmas.Int.{ints}
-use Rattle.std.specs.Int.{int_div_euclid}
 use Rattle.life_plane.specs.PlaneLaws.{union_none}
 use Rattle.life_scene.specs.StreamLaws.{step_nothing}
 use Rattle.life_plane.specs.Plane.{Plane, nothing, union, shift, run}
@@ -18,6 +17,7 @@ use Rattle.book_parts.specs.declared.turn.TurnEnd.{TurnEnd}
 use Rattle.book_parts.specs.declared.turn.TurnEnd.TheVariants.{Close, Move, Emit}
 use Rattle.book_parts.specs.Limits.{AreProper}
 use Rattle.recipe_turn.specs.Kind.{IsValidKind}
+use Rattle.recipe_turn.specs.QuarterLaws.{quarters_below}
 use Rattle.recipe_turn.specs.Turn.{IsSound, AreSpaced, AreSpacedFrom, gliders, turn_start, turn_end, IsInFront}
 use Rattle.event_times.specs.TimedTurns.{Timed, advance_of}
 use Rattle.event_times.specs.Events.{turn_gliders}
@@ -87,11 +87,6 @@ ends_of : (e : TurnEnd) (kinds : List RawKind) → turn_end e (next_plane kinds 
 ends_of Close kinds = refl
 ends_of (Move kind a) kinds = sym (union_none _)
 ends_of (Emit kind a lane j) kinds = refl
-
--- floor(j/4) is at most j/4
-quarters_below : (j : ℤ) → (pos 4 *ℤ int_div_euclid j (pos 4)) ≤ℤ j
-quarters_below (pos n) = omega (arith, ints)
-quarters_below (negsuc n) = omega (arith, ints)
 
 front_of : (settings : Settings) (p : AreProper settings) (e : TurnEnd) → IsInFront settings e → scene.InFront (rules settings p) (throw_of e)
 front_of settings p Close h = tt

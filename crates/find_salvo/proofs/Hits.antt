@@ -10,7 +10,7 @@ use Rattle.life_cells.specs.BoxLaws.{range_wider}
 use Rattle.book_parts.specs.Limits.{farthest}
 use Rattle.book_parts.specs.Proper.{IsProperHand}
 use Rattle.book_parts.specs.declared.limits.TheConstants.{MOST_LANES}
-use Rattle.recipe_hit.specs.declared.hit.Hit.{Hit}
+use Rattle.recipe_hit.specs.declared.frame.Hit.{Hit}
 use Rattle.recipe_hit.specs.Strike.{IsHit, beyond}
 use Rattle.recipe_hit.specs.Refusals.{HasNoHit}
 use Rattle.recipe_hit.specs.Sound.{AreHits, what_is_left}

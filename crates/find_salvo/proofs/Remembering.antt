@@ -11,7 +11,7 @@ use Rattle.life_cells.specs.Same.{same_set}
 use Rattle.life_cells.specs.SameLaws.{same_set_is}
 use Rattle.lru.specs.LruCache.{LruCache, lru_cache, promoted, put_entries}
 use Rattle.lru.proofs.CallerLemmas.{Contains-lookup, Contains-promoted, Contains-put_entries, IsPut}
-use Rattle.recipe_hit.specs.declared.hit.Hit.{Hit}
+use Rattle.recipe_hit.specs.declared.frame.Hit.{Hit}
 use Rattle.recipe_hit.specs.Strike.{IsHit}
 use Rattle.recipe_hit.specs.Refusals.{HasNoHit}
 use Rattle.find_salvo.specs.declared.strike.Strike.{Strike}

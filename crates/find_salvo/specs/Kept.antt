@@ -6,7 +6,7 @@ use Rattle.std.specs.Coded.{Coded, code_by, coded×, coded_ℤ, coded_list, code
 use Rattle.life_plane.specs.Plane.{Plane}
 use Rattle.life_cells.specs.Cells.{Cells, alive, coded_cells}
 use Rattle.book_parts.specs.declared.limits.TheConstants.{MOST_LANES}
-use Rattle.recipe_hit.specs.declared.hit.Hit.{Hit}
+use Rattle.recipe_hit.specs.declared.frame.Hit.{Hit}
 use Rattle.recipe_hit.specs.Refusals.{HasNoHit}
 use Rattle.recipe_hit.specs.Sound.{AreHits, what_is_left}
 use Rattle.recipe_hit.specs.Checked.{coded_hit}

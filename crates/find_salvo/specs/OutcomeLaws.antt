@@ -11,7 +11,7 @@ use Rattle.life_cells.specs.declared.cell.Cell.{Cell}
 use Rattle.life_cells.specs.Laws.{same_cells}
 use Rattle.life_cells.specs.FirstLaws.{one_first}
 use Rattle.life_islands.specs.Islands.{rest_of}
-use Rattle.recipe_hit.specs.declared.hit.Hit.{Hit}
+use Rattle.recipe_hit.specs.declared.frame.Hit.{Hit}
 use Rattle.recipe_hit.specs.Sound.{what_is_left, left_hand, IsWhole, IsSoundSalvo}
 use Rattle.recipe_hit.specs.OneHitLaws.{one_list}
 use Rattle.life_gliders.specs.Beyond.{IsPartOf}

@@ -2,7 +2,7 @@
 use Rattle.std.specs.Prelude.{ℕ, ℤ, List}
 use Rattle.life_plane.specs.Plane.{Plane}
 use Rattle.book_parts.specs.declared.salvo.RawSalvo.{RawSalvo}
-use Rattle.recipe_hit.specs.declared.hit.Hit.{Hit}
+use Rattle.recipe_hit.specs.declared.frame.Hit.{Hit}
 use Rattle.recipe_hit.specs.Sound.{AreHits, what_is_left}
 use Rattle.find_salvo.specs.Outcomes.{IsOutcomeOf}
 use Rattle.find_salvo.specs.declared.outcome.Outcome.{Outcome}

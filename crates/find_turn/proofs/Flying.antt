@@ -12,6 +12,7 @@ use Rattle.life_plane.specs.Strips.{Each, VAtMost, VAtLeast}
 use Rattle.life_plane.specs.TrackLaws.{shift-shift}
 use Rattle.life_cells.specs.BoxLaws.{near_live}
 use Rattle.find_turn.specs.Settled.{ahead, back, FliesOff}
+use Rattle.find_turn.specs.declared.settled.TheConstants.{FLIGHT_MARGIN}
 
 -- ---- v
 
@@ -40,9 +41,9 @@ at_least_runs (suc k) limit s h x y live =
     record { v = omega (arith, ints, v, r, l, d, u) }
 
 -- planes that are parted by 21 stay apart for four generations
-stay_apart : (limit : ℤ) (s t : Plane) → Each (VAtMost (limit -ℤ pos 21)) s → Each (VAtLeast limit) t → StayApart 4 s t
+stay_apart : (limit : ℤ) (s t : Plane) → Each (VAtMost (limit -ℤ FLIGHT_MARGIN)) s → Each (VAtLeast limit) t → StayApart 4 s t
 stay_apart limit s t hs ht = record {
-  each = λ k lt. apart_by_v ((limit -ℤ pos 21) +ℤ pos (2 * k)) (run k s) (run k t) (at_most_runs k (limit -ℤ pos 21) s hs)
+  each = λ k lt. apart_by_v ((limit -ℤ FLIGHT_MARGIN) +ℤ pos (2 * k)) (run k s) (run k t) (at_most_runs k (limit -ℤ FLIGHT_MARGIN) s hs)
       (λ x y live. let v = (at_least_runs k limit t ht x y live).v in record { v = omega (arith, ints, v, lt) });
 }
 
@@ -86,7 +87,7 @@ parts s h =
     let on = shift (pos 1) (pos 1) f in
     let middle = h.limit -ℤ pos 13 in
     let after : union (run 4 r) (run 4 f) ≡ union r on = sym (run_union 4 r f (stay_apart h.limit r f h.gap (behind_limit s h))) ∙ ap (run 4) (sym (both h.limit s)) ∙ h.on in
-    let r_on : Each (VAtMost middle) (run 4 r) = λ x y live. let v = (at_most_runs 4 (h.limit -ℤ pos 21) r h.gap x y live).v in record { v = omega (arith, ints, v) } in
+    let r_on : Each (VAtMost middle) (run 4 r) = λ x y live. let v = (at_most_runs 4 (h.limit -ℤ FLIGHT_MARGIN) r h.gap x y live).v in record { v = omega (arith, ints, v) } in
     let r_now : Each (VAtMost middle) r = λ x y live. let v = (h.gap x y live).v in record { v = omega (arith, ints, v) } in
     let f_on : Each (VAtLeast (middle +ℤ pos 1)) (run 4 f) = λ x y live. let v = (at_least_runs 4 h.limit f (behind_limit s h) x y live).v in record { v = omega (arith, ints, v) } in
     let f_now : Each (VAtLeast (middle +ℤ pos 1)) on = λ x y live. let v = (behind_limit s h (x -ℤ pos 1) (y -ℤ pos 1) live).v in record { v = omega (arith, ints, v) } in

@@ -11,6 +11,7 @@ use Rattle.life_gliders.specs.Beyond.{IsPartOf}
 use Rattle.book_parts.specs.Proper.{HasLife}
 use Rattle.find_turn.specs.Settled.{ahead, back, FliesOff, HasSettled, IsLeastGone}
 use Rattle.find_turn.proofs.Numbers.{up_to}
+use Rattle.find_turn.specs.declared.settled.TheConstants.{FLIGHT_MARGIN}
 
 -- ---- what flies off leaves its hindmost cells
 
@@ -94,7 +95,7 @@ same_back s h limit g =
     (λ live. let under = lt_from_test {a = x +ℤ y} {b = h.limit} (and_parts (s x y) _ live).1 in and_from _ _ (and_parts (s x y) _ live).0 (test_from_lt {a = x +ℤ y} {b = limit} (omega (arith, ints, before, under)))))
 
 -- so a part flies off from the least v of what is gone, if from any
-gap_from_gone : (s : Plane) (h : FliesOff s) (limit : ℤ) → IsLeastGone s (run 4 s) limit → Each (VAtMost (limit -ℤ pos 21)) (back limit s)
+gap_from_gone : (s : Plane) (h : FliesOff s) (limit : ℤ) → IsLeastGone s (run 4 s) limit → Each (VAtMost (limit -ℤ FLIGHT_MARGIN)) (back limit s)
 gap_from_gone s h limit g x y live =
     let v = (h.gap x y (ap (λ (p : Plane). p x y) (sym (same_back s h limit g)) ∙ live)).v in
     let before = not_before s h limit g in
@@ -121,12 +122,12 @@ settled_when_none s later is part (inl same) = sym same ∙ sym is
 settled_when_none s later is part (inr flies) = absurd (none_flies s (subst (IsPartOf s) is part) flies)
 
 -- where the rest is not far enough behind
-pub not_settled : (s later : Plane) (limit : ℤ) → later ≡ run 4 s → IsLeastGone s later limit → (Each (VAtMost (limit -ℤ pos 21)) (back limit s) → ⊥) → HasSettled s → ⊥
+pub not_settled : (s later : Plane) (limit : ℤ) → later ≡ run 4 s → IsLeastGone s later limit → (Each (VAtMost (limit -ℤ FLIGHT_MARGIN)) (back limit s) → ⊥) → HasSettled s → ⊥
 not_settled s later limit is g near (inl same) = gone_differs s later limit g (is ∙ same)
 not_settled s later limit is g near (inr flies) = near (gap_from_gone s flies limit (subst (λ p. IsLeastGone s p limit) is g))
 
 -- where it is, what would have flown
-pub settled_when_flown : (s later : Plane) (limit : ℤ) → later ≡ run 4 s → IsLeastGone s later limit → Each (VAtMost (limit -ℤ pos 21)) (back limit s) →
+pub settled_when_flown : (s later : Plane) (limit : ℤ) → later ≡ run 4 s → IsLeastGone s later limit → Each (VAtMost (limit -ℤ FLIGHT_MARGIN)) (back limit s) →
     union (back limit s) (shift (pos 1) (pos 1) (ahead limit s)) ≡ later → HasSettled s
 settled_when_flown s later limit is g gap flown = inr (record { limit = limit; lives = gone_lives s later limit g; gap = gap; on = sym is ∙ sym flown })
 

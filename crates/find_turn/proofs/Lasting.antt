@@ -16,9 +16,10 @@ use Rattle.book_parts.specs.declared.settings.Settings.{Settings}
 use Rattle.book_parts.specs.declared.turn.TurnEnd.{TurnEnd}
 use Rattle.book_parts.specs.declared.turn.TurnEnd.TheVariants.{Close, Move, Emit}
 use Rattle.recipe_turn.specs.Checked.{AreValid}
+use Rattle.recipe_turn.specs.QuarterLaws.{quarters_above, quarters_below}
 use Rattle.find_turn.specs.Standing.{IsEnd}
 use Rattle.find_turn.proofs.Ends.{IsFront}
-use Rattle.find_turn.proofs.Throwing.{moved_behind, thrown_beyond, quarters_below, quarters_above}
+use Rattle.find_turn.proofs.Throwing.{moved_behind, thrown_beyond}
 
 still_nothing : IsStill nothing
 unfolding step

@@ -1,5 +1,5 @@
 -- What stands behind the wall and what is thrown in front of it.
-use Rattle.std.proofs.Common.{◌≡◌, ℕ, zero, suc, ◌^◌, true, ℤ, pos, negsuc, neg_ℤ, ◌+ℤ◌, ◌-ℤ◌, ◌*ℤ◌, ◌≤ℤ◌, List, [], ◌∷◌, length, w64, to_z, of_z, inl, inr, sym, ap, ◌∙◌, arith}
+use Rattle.std.proofs.Common.{◌≡◌, ℕ, zero, suc, ◌^◌, true, ℤ, pos, neg_ℤ, ◌+ℤ◌, ◌-ℤ◌, ◌*ℤ◌, ◌≤ℤ◌, List, [], ◌∷◌, length, w64, to_z, of_z, inl, inr, sym, ap, ◌∙◌, arith}
 use Rattle.std.specs.Prelude.{int_le}
 use Rattle.std.specs.Int.{int_div_euclid}
 use Rattle.std.specs.List.{AllByRecursion}
@@ -19,6 +19,7 @@ use Rattle.book_parts.specs.declared.kind.RawKind.{RawKind}
 use Rattle.book_parts.specs.declared.settings.Settings.{Settings}
 use Rattle.recipe_turn.specs.Checked.{AreValid}
 use Rattle.recipe_turn.specs.Kind.{IsInPlace, AreInPlace}
+use Rattle.recipe_turn.specs.QuarterLaws.{quarters_below}
 use Rattle.find_turn.specs.Behind.{behind}
 
 -- ---- kinds, moved
@@ -46,16 +47,6 @@ kind_lives (kind ∷ kinds) proper (suc zero) is = proper.0.lives
 kind_lives (kind ∷ kinds) proper (suc (suc k)) is = let most = is.most in kind_lives kinds proper.1 (suc k) (record { some = omega arith; most = omega arith })
 
 -- ---- thrown gliders
-
--- floor(j/4) is at most j/4
-pub quarters_below : (j : ℤ) → (pos 4 *ℤ int_div_euclid j (pos 4)) ≤ℤ j
-quarters_below (pos n) = omega (arith, ints)
-quarters_below (negsuc n) = omega (arith, ints)
-
--- and less than one below it
-pub quarters_above : (j : ℤ) → j ≤ℤ (pos 4 *ℤ int_div_euclid j (pos 4) +ℤ pos 3)
-quarters_above (pos n) = omega (arith, ints)
-quarters_above (negsuc n) = omega (arith, ints)
 
 -- a glider that is thrown in front of the wall has u at least five more than it
 pub thrown_beyond : (wall lane j x y : ℤ) → (wall +ℤ pos 5) ≤ℤ ((lane +ℤ pos 2 *ℤ int_div_euclid j (pos 4)) +ℤ pos 1) → salvo_glider lane j x y ≡ true → (wall +ℤ pos 5) ≤ℤ (x -ℤ y)

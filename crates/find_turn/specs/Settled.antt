@@ -5,6 +5,7 @@ use Rattle.life_plane.specs.Strips.{Each, VAtMost}
 use Rattle.life_cells.specs.declared.cell.Cell.{Cell}
 use Rattle.book_parts.specs.Proper.{HasLife}
 use Rattle.find_turn.specs.declared.search.TheConstants.{BETWEEN_LOOKS}
+use Rattle.find_turn.specs.declared.settled.TheConstants.{FLIGHT_MARGIN}
 
 -- v is at least the limit
 abbrev pub is_ahead : ℤ → Cell → Bool
@@ -22,11 +23,11 @@ ahead limit s x y = s x y && int_le limit (x +ℤ y)
 abbrev pub back : ℤ → Plane → Plane
 back limit s x y = s x y && int_lt (x +ℤ y) limit
 
--- what is ahead of a limit is 21 ahead of the rest; four generations later it is one further right and down, and the rest is as it was
+-- what is ahead of a limit is ahead of the rest by the margin; four generations later it is one further right and down, and the rest is as it was
 pub record FliesOff (s : Plane) : Type 0 where
   pub limit : ℤ
   pub lives : HasLife (ahead limit s)
-  pub gap : Each (VAtMost (limit -ℤ pos 21)) (back limit s)
+  pub gap : Each (VAtMost (limit -ℤ FLIGHT_MARGIN)) (back limit s)
   pub on : run 4 s ≡ union (back limit s) (shift (pos 1) (pos 1) (ahead limit s))
 
 -- four generations later it is the same, or it is but for what flies off

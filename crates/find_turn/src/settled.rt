@@ -6,6 +6,7 @@ ghost use Rattle.life_cells.specs.Boxes.{IsInRange, IsCellInRange};
 ghost use Rattle.life_cells.specs.Cells.{alive};
 ghost use Rattle.life_gliders.specs.Beyond.{IsPartOf};
 ghost use Rattle.find_turn.specs.Boxes.{IsNear};
+ghost use Rattle.find_turn.specs.declared.settled.TheConstants.{FLIGHT_MARGIN};
 ghost use Rattle.find_turn.specs.Settled.{ahead, back, is_ahead, is_back, HasSettled, IsLeastGone};
 
 use life_cells::{Cell, CellSet, NoMemory, run_plain};
@@ -75,11 +76,11 @@ fn lesser(found: Option<i64>, v: i64) -> i64
     }
 }
 
-/// Whether all cells have v = x + y at least 21 less than the limit.
+/// Whether all cells have v = x + y less than the limit by the margin at least.
 fn is_parted(cells: &CellSet, limit: i64) -> bool
     requires range { IsInRange (2 ^ 41) (alive cells.now) }
     requires limit { IsNear limit }
-    ensures { IsTrue result ↔ Each (VAtMost (limit -ℤ pos 21)) (alive cells.now) }
+    ensures { IsTrue result ↔ Each (VAtMost (limit -ℤ FLIGHT_MARGIN)) (alive cells.now) }
 {
     for cell in cells.cells() {
         if limit < v_of(*cell) + FLIGHT_MARGIN {

@@ -1,17 +1,17 @@
 -- A salvo's hits, looked at one by one.
-use Rattle.std.proofs.Common.{◌≡◌, ◌↔◌, IsTrue, Bool, true, false, ℕ, ◌+◌, ◌<◌, ◌≤◌, List, [], ◌∷◌, take, length, get_or, refl, sym, subst, arith}
+use Rattle.std.proofs.Common.{◌≡◌, ◌↔◌, IsTrue, Bool, true, false, ℕ, ◌+◌, ◌<◌, ◌≤◌, List, [], ◌∷◌, take, length, get_or, refl, sym, subst}
 use Rattle.std.specs.List.{AllByRecursion}
-use Rattle.std.proofs.lemmas.Int.{ints}
 use Rattle.std.proofs.lemmas.List.{take_more, take_all}
 use Rattle.life_plane.specs.ListLaws.{each_at, all_push}
 use Rattle.life_plane.specs.Plane.{Plane}
 use Rattle.life_cells.specs.declared.cell.Cell.{Cell}
 use Rattle.book_parts.specs.declared.settings.Settings.{Settings}
 use Rattle.recipe_hit.specs.declared.frame.HitFrame.{HitFrame}
-use Rattle.recipe_hit.specs.declared.hit.Hit.{Hit}
+use Rattle.recipe_hit.specs.declared.frame.Hit.{Hit}
 use Rattle.recipe_hit.specs.Checked.{Struck, IsSmallFrame}
 use Rattle.lane_clear.specs.BaseLaws.{not_both}
 use Rattle.lane_clear.specs.Clear.{IsClear}
+use Rattle.lane_clear.specs.FrameLaws.{small_in_range}
 use Rattle.lane_clear.specs.Frames.{moved_frame, farthest, IsFrameInRange}
 use Rattle.hand_route.specs.Clearings.{IsSalvoClear, AreAllBeyond, AreAllAside, AreAllOff}
 
@@ -32,24 +32,6 @@ pub fails_here : {X : Type 0} (P : X → Type 0) (xs : List X) (i : ℕ) (x : X)
 fails_here P xs i x test lt is tests fails = (λ h. cc, λ all. absurd (not_both fails (tests.1 (subst P (sym is) (each_at P xs all i x lt)))))
 
 -- ---- frames
-
-small_in_range : (f : HitFrame) → IsSmallFrame f → IsFrameInRange farthest f
-small_in_range f small =
-    let lane = small.lane in let start = small.start in let left = small.left in let top = small.top in let right = small.right in let bottom = small.bottom in
-    record {
-      lane = record { low = omega (arith, ints); high = omega (arith, ints) };
-      start = record { low = omega (arith, ints); high = omega (arith, ints) };
-      bounds = record {
-        left_low = omega (arith, ints);
-        left_high = omega (arith, ints);
-        top_low = omega (arith, ints);
-        top_high = omega (arith, ints);
-        right_low = omega (arith, ints);
-        right_high = omega (arith, ints);
-        bottom_low = omega (arith, ints);
-        bottom_high = omega (arith, ints);
-      };
-    }
 
 pub frame_in_range : (hits : List Hit) (i : ℕ) (hit : Hit) → AllByRecursion (λ (h : Hit). IsSmallFrame h.frame) hits → i < length hits → hit ≡ get_or hits i hit → IsFrameInRange farthest hit.frame
 frame_in_range hits i hit small lt is = subst (λ (h : Hit). IsFrameInRange farthest h.frame) (sym is) (small_in_range _ (each_at (λ (h : Hit). IsSmallFrame h.frame) hits small i hit lt))

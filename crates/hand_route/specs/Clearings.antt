@@ -6,7 +6,7 @@ use Rattle.life_plane.specs.Strips.{Each}
 use Rattle.life_cells.specs.declared.cell.Cell.{Cell}
 use Rattle.book_parts.specs.declared.settings.Settings.{Settings}
 use Rattle.recipe_hit.specs.Checked.{Struck}
-use Rattle.recipe_hit.specs.declared.hit.Hit.{Hit}
+use Rattle.recipe_hit.specs.declared.frame.Hit.{Hit}
 use Rattle.lane_clear.specs.Clear.{AreBeyond, IsAside, IsOffBounds, IsClear}
 use Rattle.lane_clear.specs.Frames.{moved_frame}
 

@@ -5,7 +5,7 @@ ghost use Rattle.std.specs.List.{AllByRecursion};
 ghost use Rattle.life_cells.specs.Boxes.{IsCellInRange};
 ghost use Rattle.life_cells.specs.Cells.{alive};
 ghost use Rattle.book_parts.specs.Limits.{AreProper};
-ghost use Rattle.recipe_hit.specs.declared.hit.Hit.{Hit};
+ghost use Rattle.recipe_hit.specs.declared.frame.Hit.{Hit};
 ghost use Rattle.recipe_hit.specs.Checked.{AreSmallFrames};
 ghost use Rattle.lane_clear.specs.Clear.{AreBeyond, IsAside, IsOffBounds};
 ghost use Rattle.lane_clear.specs.Frames.{moved_frame, farthest};

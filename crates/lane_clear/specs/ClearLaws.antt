@@ -7,7 +7,7 @@ use Rattle.life_scene.specs.ClearanceLaws.{aside_apart}
 use Rattle.life_cells.specs.declared.cell.Cell.{Cell}
 use Rattle.book_parts.specs.declared.settings.Settings.{Settings}
 use Rattle.recipe_hit.specs.declared.frame.HitFrame.{HitFrame}
-use Rattle.recipe_hit.specs.declared.hit.Hit.{Hit}
+use Rattle.recipe_hit.specs.declared.frame.Hit.{Hit}
 use Rattle.recipe_hit.specs.Strike.{IsHit}
 use Rattle.lane_clear.specs.Frames.{moved_frame}
 use Rattle.lane_clear.specs.MovedFrameLaws.{hit_at}

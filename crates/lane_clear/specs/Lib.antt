@@ -1,6 +1,7 @@
 -- Clearance of hits at the hand's place.
 pub mod BaseLaws
 pub mod Frames
+pub mod FrameLaws
 pub mod MovedFrameLaws
 pub mod Clear
 pub mod Refusals

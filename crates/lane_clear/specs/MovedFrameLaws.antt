@@ -8,7 +8,7 @@ use Rattle.lane_clear.specs.Frames.{moved_bounds, moved_frame}
 use Rattle.life_scene.specs.Hits as scene
 use Rattle.life_cells.specs.Cells.{alive}
 use Rattle.life_cells.specs.declared.cell.Cell.{Cell}
-use Rattle.recipe_hit.specs.declared.hit.Hit.{Hit}
+use Rattle.recipe_hit.specs.declared.frame.Hit.{Hit}
 
 -- a hit of the book, moved to the hand's place, is one for the composition theorem
 pub hit_at : (place : Cell) (struck : Plane) (hit : Hit) (h : IsHit struck hit.frame.lane hit) →

@@ -8,7 +8,7 @@ ghost use Rattle.life_cells.specs.Cells.{alive};
 ghost use Rattle.life_cells.specs.declared.cell.Cell.{Cell};
 ghost use Rattle.book_parts.specs.declared.settings.Settings.{Settings};
 ghost use Rattle.recipe_hit.specs.declared.frame.HitFrame.{HitFrame};
-ghost use Rattle.recipe_hit.specs.declared.hit.Hit.{Hit};
+ghost use Rattle.recipe_hit.specs.declared.frame.Hit.{Hit};
 ghost use Rattle.recipe_hit.specs.Strike.{IsHit};
 ghost use Rattle.recipe_hit.specs.SceneBoxes.{as_box};
 ghost use Rattle.lane_clear.specs.Frames.{moved_bounds, moved_frame};

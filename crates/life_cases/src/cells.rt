@@ -9,8 +9,7 @@ use life_cells::{CellSet, NoMemory};
 use life_islands::{is_one_island, islands, shape_of};
 use life_rle::{read_body, read_rle};
 use life_steps::Steps;
-use recipe_hit::Hit;
-use recipe_hit::striking::hit;
+use recipe_hit::{Hit, hit};
 use std::alloc::{AllocError, Global};
 use std::sync::ledger::Ledger;
 

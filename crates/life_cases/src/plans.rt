@@ -2,8 +2,7 @@
 
 use crate::books::checked;
 use crate::texts::Texts;
-use build_plan::planning::plan;
-use build_plan::{Event, Plan, PlanError, Target};
+use build_plan::{Event, Plan, PlanError, Target, plan};
 use life_cells::NoMemory;
 use life_rle::read_rle;
 use life_steps::Steps;

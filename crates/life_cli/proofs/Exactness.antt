@@ -29,7 +29,7 @@ use Rattle.book_parts.specs.declared.limits.TheConstants.{MOST_STATES}
 use Rattle.recipe_book.specs.Entries.{AreTheSound}
 use Rattle.recipe_book.specs.Refusals.{BookIsRefused}
 use Rattle.recipe_book.specs.declared.refusal.BookRefusal as check
-use Rattle.build_plan.specs.declared.plan.Plan.{Plan}
+use Rattle.build_plan.specs.declared.event.Plan.{Plan}
 use Rattle.build_plan.specs.declared.error.PlanError.{PlanError}
 use Rattle.build_plan.specs.declared.error.PlanError.TheVariants as stop
 use Rattle.build_plan.specs.Plan.{IsPlan}

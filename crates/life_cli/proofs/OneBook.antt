@@ -14,7 +14,7 @@ use Rattle.book_text.specs.Book.{Said}
 use Rattle.recipe_turn.specs.Checked.{Checked, IsOf}
 use Rattle.recipe_hit.specs.Checked.{Struck}
 use Rattle.recipe_hit.specs.Sound.{AreHits}
-use Rattle.recipe_hit.specs.declared.hit.Hit.{Hit}
+use Rattle.recipe_hit.specs.declared.frame.Hit.{Hit}
 use Rattle.recipe_book.specs.Checked.{CheckedEntries}
 use Rattle.recipe_book.specs.Entries.{AreTheSound, AreTheSoundSalvos}
 use Rattle.life_cli.specs.Book.{IsStruckAt, PassesTests}

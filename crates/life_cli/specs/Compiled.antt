@@ -10,10 +10,10 @@ use Rattle.life_target.specs.declared.refusal.TargetError as target
 use Rattle.recipe_book.specs.Checked.{CheckedEntries}
 use Rattle.build_plan.specs.Plan.{IsPlan}
 use Rattle.build_plan.specs.Stops.{PlanStops}
-use Rattle.build_plan.specs.declared.plan.Plan as plans
+use Rattle.build_plan.specs.declared.event.Plan as plans
 use Rattle.build_plan.specs.declared.error.PlanError.TheVariants as stop
-use Rattle.stream_build.specs.Built.{IsBuilt}
-use Rattle.stream_build.specs.declared.building.Built.{Built}
+use Rattle.stream_time.specs.Built.{IsBuilt}
+use Rattle.stream_time.specs.declared.building.Built.{Built}
 use Rattle.book_text.specs.Book.{Said}
 use Rattle.life_cli.specs.Book.{book_tests}
 use Rattle.life_cli.specs.Inputs.{Told, book_input, pattern_input}

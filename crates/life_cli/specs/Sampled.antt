@@ -3,7 +3,7 @@ use Rattle.std.specs.Prelude.{◌≡◌, ℕ, List}
 use Rattle.life_plane.specs.Plane.{nothing}
 use Rattle.life_target.specs.Targets.{IsTarget}
 use Rattle.recipe_book.specs.Checked.{CheckedEntries}
-use Rattle.build_plan.specs.declared.plan.Plan as plans
+use Rattle.build_plan.specs.declared.event.Plan as plans
 use Rattle.build_plan.specs.Plan.{IsPlan}
 use Rattle.stream_time.specs.declared.times.Schedule.{Schedule}
 use Rattle.stream_time.specs.InTime.{IsSchedule}

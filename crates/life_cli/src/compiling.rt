@@ -10,7 +10,7 @@ ghost use Rattle.life_io.specs.Texts.{Holds};
 ghost use Rattle.book_parts.specs.Proper.{IsProperBook};
 ghost use Rattle.recipe_book.specs.Checked.{CheckedEntries};
 ghost use Rattle.build_plan.specs.Stops.{PlanStops};
-ghost use Rattle.stream_build.specs.Built.{IsBuilt};
+ghost use Rattle.stream_time.specs.Built.{IsBuilt};
 ghost use Rattle.life_cli.specs.Stages.{HasCause, EndWith};
 ghost use Rattle.life_cli.specs.Compiled.{TargetRefuses, PlanRefuses, planning, building, compile};
 
@@ -27,7 +27,7 @@ use life_target::{Target, TargetError};
 use recipe_book::CheckedBook;
 use std::alloc::Global;
 use std::sync::ledger::Ledger;
-use stream_build::{Built, compile as build};
+use stream_time::{Built, compile as build};
 
 /// Refuses a set of cells that is no target.
 pub(crate) fn target_of<L: Ledger>(

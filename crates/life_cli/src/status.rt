@@ -30,7 +30,7 @@ pub enum Which {
 pub enum Status {
     /// All of the text was put.
     Done,
-    /// The words are no command.
+    /// The words are no command; want of memory to read them is `Memory`.
     Words(WordsError),
     /// A text was not fetched: the depot's count of faults rose.
     ReadFault,

@@ -10,7 +10,7 @@ ghost use Rattle.life_cli.specs.Compiled.{generations};
 use life_cells::{CellSet, NoMemory};
 use life_rle::{Pattern, write_rle};
 use std::alloc::Global;
-use stream_build::Built;
+use stream_time::Built;
 
 /// The text of a pattern, with its number of generations in a note.
 pub(crate) fn text_of_built(alloc: Global, built: Built) -> Result<Vec<u8>, NoMemory>

@@ -28,6 +28,15 @@ pub all_append : {X : Type 0} (P : X → Type 0) (xs ys : List X) → AllByRecur
 all_append P [] ys h k = k
 all_append P (x ∷ xs) ys h k = (h.0, all_append P xs ys h.1 k)
 
+-- what holds of each of two lists holds of each of the first, and of the second
+pub all_front : {X : Type 0} (P : X → Type 0) (xs ys : List X) → AllByRecursion P (xs ++ ys) → AllByRecursion P xs
+all_front P [] ys h = tt
+all_front P (x ∷ xs) ys h = (h.0, all_front P xs ys h.1)
+
+pub all_back : {X : Type 0} (P : X → Type 0) (xs ys : List X) → AllByRecursion P (xs ++ ys) → AllByRecursion P ys
+all_back P [] ys h = h
+all_back P (x ∷ xs) ys h = all_back P xs ys h.1
+
 -- one more behind the others
 pub all_push : {X : Type 0} (P : X → Type 0) (xs : List X) (x : X) → AllByRecursion P xs → P x → AllByRecursion P (xs ++ x ∷ [])
 all_push P xs x h p = all_append P xs (x ∷ []) h (p, tt)

@@ -7,6 +7,7 @@ use Rattle.std.specs.String.{string_bytes}
 use Rattle.std.specs.declared.option.Option.{Option}
 use Rattle.std.specs.declared.option.Option.TheVariants.{Some, None}
 use Rattle.std.specs.Str.Parse.{IsNumeral, digits_value}
+use Rattle.life_sample.specs.declared.limits.TheConstants.{GREATEST_GAP, LEAST_GAP, MOST_COUNT}
 use Rattle.life_words.specs.declared.number.Limits.{Limits}
 use Rattle.life_words.specs.declared.command.Command.{Command}
 use Rattle.life_words.specs.declared.command.Command.TheVariants.{Check, Extend, Compile, Certify, Audit, Replay, Sample}
@@ -63,10 +64,10 @@ abbrev pub any_number : Limits
 any_number = record { least = 0; most = 2 ^ 32 - 1 }
 
 abbrev pub sample_counts : Limits
-sample_counts = record { least = 1; most = 64 }
+sample_counts = record { least = 1; most = MOST_COUNT }
 
 abbrev pub sample_gaps : Limits
-sample_gaps = record { least = 64; most = 1000000 }
+sample_gaps = record { least = LEAST_GAP; most = GREATEST_GAP }
 
 -- a command in words
 abbrev pub phrase_of : Command → Phrase

@@ -9,6 +9,7 @@ use crate::number::{Limits, number_at};
 use crate::refusal::WordsError;
 use crate::values::values_behind;
 use crate::word::Word;
+use life_sample::limits::{GREATEST_GAP, LEAST_GAP, MOST_COUNT};
 use std::alloc::Global;
 
 /// Any number of 32 bits.
@@ -18,12 +19,15 @@ const ANY_NUMBER: Limits = Limits {
 };
 
 /// How many kinds a sample may have.
-const SAMPLE_COUNTS: Limits = Limits { least: 1, most: 64 };
+const SAMPLE_COUNTS: Limits = Limits {
+    least: 1,
+    most: MOST_COUNT,
+};
 
 /// How far apart the blocks of a sample may be, in cells.
 const SAMPLE_GAPS: Limits = Limits {
-    least: 64,
-    most: 1_000_000,
+    least: LEAST_GAP,
+    most: GREATEST_GAP,
 };
 
 /// The command `check BOOK` of these words, the first of which names it.

@@ -13,7 +13,7 @@ use Rattle.recipe_turn.specs.Turn.{IsSound}
 use Rattle.recipe_turn.specs.declared.refusal.TurnRefusal.{TurnRefusal}
 use Rattle.recipe_turn.specs.declared.refusal.TurnRefusal.TheVariants as turns
 use Rattle.recipe_hit.specs.Sound as hit
-use Rattle.recipe_hit.specs.declared.hit.Hit.{Hit}
+use Rattle.recipe_hit.specs.declared.frame.Hit.{Hit}
 use Rattle.recipe_hit.specs.SalvoRefusals.{SalvoIsRefused}
 use Rattle.recipe_hit.specs.declared.refusal.SalvoRefusal.{SalvoRefusal}
 use Rattle.recipe_hit.specs.declared.refusal.SalvoRefusal.TheVariants as salvos

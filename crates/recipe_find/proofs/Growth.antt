@@ -19,6 +19,8 @@ use Rattle.find_order.specs.declared.candidate.Candidate.TheVariants.{Lanes, Del
 use Rattle.recipe_find.specs.Adding.{AddsSalvo, AddsTurn, AreAdded, known}
 use Rattle.recipe_find.specs.Growing.{Gains, Grow}
 use Rattle.recipe_find.specs.Extended.{first_candidates, IsExtended}
+use Rattle.life_plane.specs.ListLaws.{all_back}
+use Rattle.recipe_find.specs.declared.limits.TheConstants.{MOST_GENERATIONS}
 
 -- ---- one candidate
 
@@ -127,15 +129,11 @@ one_tried book tried old new candidate turns turns_then salvos salvos_then h nex
     }
 
 -- the next candidate fits the book
-back_all : (P : Candidate → Type 0) (xs ys : List Candidate) → AllByRecursion P (xs ++ ys) → AllByRecursion P ys
-back_all P [] ys h = h
-back_all P (x ∷ xs) ys h = back_all P xs ys h.1
-
 pub next_fits : (book : Said) (tried : ℕ) (old new : List Candidate) (candidate : Candidate) (turns : List RawTurn) (salvos : List RawSalvo) → IsGrowing book tried old turns salvos → old ≡ candidate ∷ new →
     AllByRecursion (IsFitting (length book.kinds)) (candidates book.settings (length book.kinds)) → IsFitting (length book.kinds) candidate
 next_fits book tried old new candidate turns salvos h next fit =
     let all = subst (AllByRecursion (IsFitting (length book.kinds))) (h.all ∙ ap (λ l. h.done ++ l) next) fit in
-    (back_all (IsFitting (length book.kinds)) h.done (candidate ∷ new) all).0
+    (all_back (IsFitting (length book.kinds)) h.done (candidate ∷ new) all).0
 
 -- ---- the whole
 
@@ -171,7 +169,7 @@ pub record IsUnderWay (book : CheckedEntries) (tried : ℕ) (coming : List Candi
   pub growing : IsGrowing (said_of book) tried coming turns salvos
   pub hand_is : hand ≡ book.hand
   pub least : before ≤ now
-  pub most : now ≤ before + 262208 * tried
+  pub most : now ≤ before + MOST_GENERATIONS * tried
 
 pub begins : (book : CheckedEntries) (settings : Settings) (kinds : List RawKind) (checked_turns : List Checked) (checked_salvos : List Struck) (coming : List Candidate) (turns : List RawTurn) (salvos : List RawSalvo) (hand : Cells) (steps : ℕ) →
     settings ≡ book.settings → kinds ≡ book.kinds → checked_turns ≡ book.turns → checked_salvos ≡ book.salvos → hand ≡ book.hand → coming ≡ candidates settings (length kinds) → turns ≡ raws checked_turns → salvos ≡ raw_salvos checked_salvos →
@@ -184,7 +182,7 @@ begins book settings kinds checked_turns checked_salvos coming turns salvos hand
 }
 
 pub goes_on : (book : CheckedEntries) (tried : ℕ) (old new : List Candidate) (candidate : Candidate) (turns turns_then : List RawTurn) (salvos salvos_then : List RawSalvo) (hand hand_then : Cells) (before now then : ℕ) →
-    IsUnderWay book tried old turns salvos hand before now → old ≡ candidate ∷ new → Grow (said_of book) (tried + 1) candidate turns turns_then salvos salvos_then → hand_then ≡ hand → now ≤ then → then ≤ now + 262208 →
+    IsUnderWay book tried old turns salvos hand before now → old ≡ candidate ∷ new → Grow (said_of book) (tried + 1) candidate turns turns_then salvos salvos_then → hand_then ≡ hand → now ≤ then → then ≤ now + MOST_GENERATIONS →
     IsUnderWay book (tried + 1) new turns_then salvos_then hand_then before then
 goes_on book tried old new candidate turns turns_then salvos salvos_then hand hand_then before now then h next grow same later few = record {
   growing = one_tried (said_of book) tried old new candidate turns turns_then salvos salvos_then h.growing next grow;

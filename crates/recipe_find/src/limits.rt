@@ -8,12 +8,13 @@ ghost use Rattle.book_parts.specs.Proper.{IsDelay, IsIndex, IsProperPlace};
 ghost use Rattle.recipe_find.specs.Limited.{IsBoxPlaced, IsEndLimited};
 
 use book_parts::TurnEnd;
-use book_parts::limits::{GREATEST_COORDINATE, GREATEST_INDEX, LONGEST_DELAY};
+use book_parts::limits::{GREATEST_COORDINATE, GREATEST_INDEX, LONGEST_DELAY, MOST_LANES};
 use find_salvo::Outcome;
 use life_cells::{Bounds, Cell, CellSet};
+use recipe_hit::limits::MOST_COUNTED;
 
-/// The most generations that a candidate takes: 4,097 for each of 64 lanes.
-pub const MOST_GENERATIONS: u64 = 262_208;
+/// The most generations that a candidate takes: those of a hit for each of its lanes.
+pub const MOST_GENERATIONS: u64 = MOST_COUNTED * MOST_LANES;
 
 /// Whether a coordinate, shift or lane is one that a book may have.
 fn is_coordinate(number: i64) -> bool

@@ -11,7 +11,7 @@ use Rattle.life_scene.specs.HitLaws.{coming_apart, hit_lasts}
 use Rattle.life_cells.specs.declared.bounds.Bounds.{Bounds}
 use Rattle.life_cells.specs.Cells.{alive}
 use Rattle.life_cells.specs.Boxes.{Holds}
-use Rattle.recipe_hit.specs.declared.hit.Hit.{Hit}
+use Rattle.recipe_hit.specs.declared.frame.Hit.{Hit}
 use Rattle.recipe_hit.specs.Strike.{first_quarter, hit_start, ComesToRest, IsHit}
 use Rattle.recipe_hit.specs.SceneHitLaws.{held, scene_hit}
 use Rattle.recipe_hit.specs.SceneBoxes.{as_box}

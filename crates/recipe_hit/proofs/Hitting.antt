@@ -6,7 +6,7 @@ use Rattle.life_cells.specs.declared.bounds.Bounds.{Bounds}
 use Rattle.life_cells.specs.Cells.{alive}
 use Rattle.life_cells.specs.Boxes.{IsLeastBox}
 use Rattle.life_cells.specs.BoxLaws.{one_least_box}
-use Rattle.recipe_hit.specs.declared.hit.Hit.{Hit}
+use Rattle.recipe_hit.specs.declared.frame.Hit.{Hit}
 use Rattle.recipe_hit.specs.declared.rest.Rest.{Rest}
 use Rattle.recipe_hit.specs.Strike.{first_quarter, hit_start, ever, ComesToRest, IsNear, IsHit}
 use Rattle.recipe_hit.specs.OneHitLaws.{one_rest}

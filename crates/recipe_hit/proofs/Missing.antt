@@ -2,7 +2,7 @@
 use Rattle.std.proofs.Common.{◌≡◌, ℕ, ◌+◌, ◌<◌, ℤ, List, [], ◌∷◌, ◌++◌, length, get_or, take, drop, sym, ap, subst, ◌∙◌, arith}
 use Rattle.std.proofs.lemmas.List.{at_drop_more, take-append-drop, length-take-le, take_more}
 use Rattle.life_plane.specs.Plane.{Plane}
-use Rattle.recipe_hit.specs.declared.hit.Hit.{Hit}
+use Rattle.recipe_hit.specs.declared.frame.Hit.{Hit}
 use Rattle.recipe_hit.specs.declared.refusal.SalvoRefusal.{SalvoRefusal}
 use Rattle.recipe_hit.specs.declared.refusal.SalvoRefusal.TheVariants.{Empty, NotSettled, EndDiffers, ProductSplit, HandNear, Memory}
 use Rattle.recipe_hit.specs.Strike.{IsHit}

@@ -2,7 +2,7 @@
 use Rattle.std.proofs.Common.{◌≡◌, ◌≢◌, ℤ, refl, sym, ap, ◌∙◌}
 use Rattle.life_plane.specs.Plane.{Plane}
 use Rattle.life_cells.specs.FirstLaws.{one_first}
-use Rattle.recipe_hit.specs.declared.hit.Hit.{Hit}
+use Rattle.recipe_hit.specs.declared.frame.Hit.{Hit}
 use Rattle.recipe_hit.specs.declared.refusal.HitRefusal.{HitRefusal}
 use Rattle.recipe_hit.specs.declared.refusal.HitRefusal.TheVariants as hit
 use Rattle.recipe_hit.specs.declared.refusal.HandRefusal.{HandRefusal}

@@ -14,7 +14,7 @@ use Rattle.book_parts.specs.declared.salvo.RawSalvo.{RawSalvo}
 use Rattle.recipe_hit.specs.declared.frame.HitFrame.{HitFrame}
 use Rattle.book_parts.specs.contracts.salvo.RawSalvo as raw_salvo
 use Rattle.recipe_hit.specs.contracts.frame.HitFrame as frame_row
-use Rattle.recipe_hit.specs.declared.hit.Hit.{Hit}
+use Rattle.recipe_hit.specs.declared.frame.Hit.{Hit}
 use Rattle.recipe_hit.specs.Sound.{IsSound}
 
 -- from -2^31 to 2^31

@@ -11,7 +11,7 @@ use Rattle.life_cells.specs.Boxes.{IsInRange, IsBoxInRange}
 use Rattle.life_cells.specs.BoxLaws.{range_wider}
 use Rattle.book_parts.specs.Limits.{IsCoordinate, farthest}
 use Rattle.book_parts.specs.Proper.{IsProperHand}
-use Rattle.recipe_hit.specs.declared.hit.Hit.{Hit}
+use Rattle.recipe_hit.specs.declared.frame.Hit.{Hit}
 use Rattle.recipe_hit.specs.Strike.{first_quarter, hit_start, IsHit, beyond}
 use Rattle.recipe_hit.specs.Sound.{AreHits, what_is_left}
 use Rattle.recipe_hit.specs.Checked.{IsSmall, IsSmallFrame, AreSmallFrames}

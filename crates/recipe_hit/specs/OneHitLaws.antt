@@ -7,7 +7,7 @@ use Rattle.life_cells.specs.Boxes.{IsLeastBox}
 use Rattle.life_cells.specs.BoxLaws.{one_least_box}
 use Rattle.life_cells.specs.Laws.{same_cells}
 use Rattle.book_parts.specs.Proper.{HasLife}
-use Rattle.recipe_hit.specs.declared.hit.Hit.{Hit}
+use Rattle.recipe_hit.specs.declared.frame.Hit.{Hit}
 use Rattle.recipe_hit.specs.Strike.{first_quarter, hit_start, ever, ComesToRest, IsHit}
 use Rattle.recipe_hit.specs.Sound.{AreHits}
 

@@ -3,7 +3,7 @@ use Rattle.std.specs.Prelude.{◌≡◌, ℤ}
 use Rattle.life_plane.specs.Plane.{Plane, nothing}
 use Rattle.life_cells.specs.Firsts.{IsFirstChange}
 use Rattle.book_parts.specs.Proper.{HasLife}
-use Rattle.recipe_hit.specs.declared.hit.Hit.{Hit}
+use Rattle.recipe_hit.specs.declared.frame.Hit.{Hit}
 use Rattle.recipe_hit.specs.declared.refusal.HitRefusal.{HitRefusal}
 use Rattle.recipe_hit.specs.declared.refusal.HitRefusal.TheVariants as hit
 use Rattle.recipe_hit.specs.declared.refusal.HandRefusal.{HandRefusal}

@@ -8,7 +8,7 @@ use Rattle.life_cells.specs.Firsts.{IsFirstOf, IsFirstDifferent}
 use Rattle.life_cells.specs.Close.{Close}
 use Rattle.book_parts.specs.Proper.{HasLife}
 use Rattle.book_parts.specs.declared.salvo.RawSalvo.{RawSalvo}
-use Rattle.recipe_hit.specs.declared.hit.Hit.{Hit}
+use Rattle.recipe_hit.specs.declared.frame.Hit.{Hit}
 use Rattle.recipe_hit.specs.declared.refusal.SalvoRefusal.{SalvoRefusal}
 use Rattle.recipe_hit.specs.declared.refusal.SalvoRefusal.TheVariants.{Empty, NotSettled, EndDiffers, ProductSplit, HandNear, Memory}
 use Rattle.recipe_hit.specs.Refusals.{HasNoHit}

@@ -9,7 +9,7 @@ use Rattle.life_scene.specs.Hits as scene
 use Rattle.life_cells.specs.Cells.{alive}
 use Rattle.life_cells.specs.Boxes.{Holds}
 use Rattle.life_cells.specs.declared.bounds.Bounds.{Bounds}
-use Rattle.recipe_hit.specs.declared.hit.Hit.{Hit}
+use Rattle.recipe_hit.specs.declared.frame.Hit.{Hit}
 use Rattle.recipe_hit.specs.Strike.{hit_start, ever, IsHit}
 use Rattle.recipe_hit.specs.SceneBoxes.{as_box}
 

@@ -8,7 +8,7 @@ use Rattle.life_cells.specs.Cells.{alive}
 use Rattle.life_cells.specs.declared.cell.Cell.{Cell}
 use Rattle.life_islands.specs.Islands.{IsOneIsland}
 use Rattle.book_parts.specs.declared.salvo.RawSalvo.{RawSalvo}
-use Rattle.recipe_hit.specs.declared.hit.Hit.{Hit}
+use Rattle.recipe_hit.specs.declared.frame.Hit.{Hit}
 use Rattle.recipe_hit.specs.Strike.{IsHit}
 
 -- a glider of each lane, one after the other, strikes what the hit before has left

@@ -6,7 +6,7 @@ use Rattle.life_plane.specs.Salvo.{salvo_glider}
 use Rattle.life_cells.specs.Cells.{alive}
 use Rattle.life_cells.specs.Boxes.{IsLeastBox}
 use Rattle.life_cells.specs.declared.bounds.Bounds.{Bounds}
-use Rattle.recipe_hit.specs.declared.hit.Hit.{Hit}
+use Rattle.recipe_hit.specs.declared.frame.Hit.{Hit}
 use Rattle.recipe_hit.specs.declared.limits.TheConstants.{LONGEST_HIT, BEYOND}
 
 -- The quarter of a glider's index from which it comes to what lies in the box: six cells away to the left of it, or below it, whichever

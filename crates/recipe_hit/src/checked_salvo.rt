@@ -8,8 +8,8 @@ ghost use Rattle.recipe_hit.specs.Checked.{IsChecked};
 ghost use Rattle.recipe_hit.specs.SalvoRefusals.{SalvoIsRefused};
 ghost use Rattle.recipe_hit.specs.declared.limits.TheConstants.{MOST_COUNTED};
 
+use crate::frame::Hit;
 use crate::hand::Hand;
-use crate::hit::Hit;
 use crate::refusal::SalvoRefusal;
 use crate::soundness::test_salvo;
 use book_parts::RawSalvo;

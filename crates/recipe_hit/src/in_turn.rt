@@ -13,7 +13,7 @@ ghost use Rattle.recipe_hit.specs.Checked.{AreSmallFrames};
 ghost use Rattle.recipe_hit.specs.SalvoRefusals.{LaneIsRefused, LanesAreRefused};
 ghost use Rattle.recipe_hit.specs.declared.limits.TheConstants.{MOST_COUNTED};
 
-use crate::hit::Hit;
+use crate::frame::Hit;
 use crate::refusal::{HitRefusal, SalvoRefusal};
 use crate::striking::hit;
 use life_cells::CellSet;

@@ -3,7 +3,7 @@
 
 ghost use Rattle.std.specs.Prelude.{◌≡◌, ◌≢◌, ℕ, ℤ, List};
 ghost use Rattle.life_plane.specs.Plane.{Plane, IsStill};
-ghost use Rattle.recipe_hit.specs.declared.hit.Hit.{Hit};
+ghost use Rattle.recipe_hit.specs.declared.frame.Hit.{Hit};
 ghost use Rattle.recipe_hit.specs.Strike.{IsHit};
 ghost use Rattle.recipe_hit.specs.FurtherBack.{IsHitFrom};
 ghost use Rattle.recipe_hit.specs.Hands.{IsHand};

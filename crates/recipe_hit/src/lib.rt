@@ -8,7 +8,6 @@ pub mod ending;
 mod endless;
 pub mod frame;
 pub mod hand;
-pub mod hit;
 pub mod in_turn;
 pub mod laws;
 mod leading;
@@ -20,7 +19,7 @@ pub mod striking;
 mod turned;
 
 pub use checked_salvo::{CheckedSalvo, check_salvo};
-pub use frame::HitFrame;
+pub use frame::{Hit, HitFrame};
 pub use hand::{Hand, check_hand};
-pub use hit::Hit;
 pub use refusal::{HandRefusal, HitRefusal, SalvoRefusal};
+pub use striking::hit;

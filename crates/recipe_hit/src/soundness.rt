@@ -9,7 +9,7 @@ ghost use Rattle.recipe_hit.specs.SalvoRefusals.{SalvoIsRefused};
 ghost use Rattle.recipe_hit.specs.declared.limits.TheConstants.{MOST_COUNTED};
 
 use crate::ending::{hand_at, shown, test_end};
-use crate::hit::Hit;
+use crate::frame::Hit;
 use crate::in_turn::{left_by, strike_in_turn};
 use crate::refusal::SalvoRefusal;
 use book_parts::RawSalvo;

@@ -10,8 +10,7 @@ ghost use Rattle.recipe_hit.specs.Refusals.{HitIsRefused};
 ghost use Rattle.recipe_hit.specs.declared.limits.TheConstants.{MOST_COUNTED};
 
 use crate::boxes::{grown, is_near};
-use crate::frame::HitFrame;
-use crate::hit::Hit;
+use crate::frame::{Hit, HitFrame};
 use crate::limits::LONGEST_HIT;
 use crate::refusal::HitRefusal;
 use crate::rest::come_to_rest;

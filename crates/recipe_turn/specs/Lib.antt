@@ -9,5 +9,6 @@ pub mod Breaches
 pub mod Range
 pub mod Checked
 pub mod Refusals
+pub mod QuarterLaws
 pub mod StartLaws
 pub mod GapLaws

@@ -26,8 +26,9 @@ use Rattle.recipe_hit.specs.Checked.{Struck, IsSmallFrame, IsChecked}
 use Rattle.recipe_hit.specs.declared.frame.HitFrame.{HitFrame}
 use Rattle.recipe_hit.specs.declared.limits.TheConstants.{LONGEST_HIT}
 use Rattle.recipe_hit.specs.SceneBoxes.{as_box}
-use Rattle.recipe_hit.specs.declared.hit.Hit as hits
+use Rattle.recipe_hit.specs.declared.frame.Hit as hits
 use Rattle.recipe_book.specs.Checked.{CheckedEntries, IsCheckedBook}
+use Rattle.lane_clear.specs.FrameLaws.{small_in_range}
 use Rattle.lane_clear.specs.Frames.{moved_frame, moved_bounds, farthest, IsFrameInRange}
 use Rattle.lane_clear.specs.MovedFrameLaws.{hit_at}
 use Rattle.event_times.specs.TimedTurns.{Timed, end}
@@ -53,7 +54,7 @@ use Rattle.plan_facts.specs.SalvoLaws.{hit_in_turn}
 use Rattle.build_plan.specs.declared.event.Event.{Event}
 use Rattle.build_plan.specs.declared.event.Event.TheVariants.{Turn, Hit}
 use Rattle.build_plan.specs.Happenings.{salvo_of, IsHitOf, StandsFor, AllStandFor, IsOfBook}
-use Rattle.build_plan.specs.declared.plan.Plan.{Plan}
+use Rattle.build_plan.specs.declared.event.Plan.{Plan}
 use Rattle.build_plan.specs.Numbers.{item_of}
 use Rattle.build_plan.specs.NumberLaws.{item_numbered}
 use Rattle.build_plan.specs.TurnEvents.{delays_of, gliders_of}
@@ -174,24 +175,7 @@ module _ (book : CheckedEntries) where
   pub hit_frame : IsCheckedBook book → (number place : ℕ) (hit : hits.Hit) → IsHitThere book number place hit → IsFrameInRange farthest hit.frame
   hit_frame checked number place hit there =
       let s = of_number IsChecked book.salvos number there.0 checked.salvos there.1.0 in
-      let small = of_number (λ (h : hits.Hit). IsSmallFrame h.frame) there.0.hits place hit s.small there.1.1 in
-      let sl = small.start.low in let sh = small.start.high in let nl = small.lane.low in let nh = small.lane.high in
-      let ll = small.left.low in let lh = small.left.high in let tl = small.top.low in let th = small.top.high in
-      let rl = small.right.low in let rh = small.right.high in let bl = small.bottom.low in let bh = small.bottom.high in
-      record {
-        lane = record { low = omega (arith, ints); high = omega (arith, ints) };
-        start = record { low = omega (arith, ints); high = omega (arith, ints) };
-        bounds = record {
-          left_low = omega (arith, ints);
-          left_high = omega (arith, ints);
-          top_low = omega (arith, ints);
-          top_high = omega (arith, ints);
-          right_low = omega (arith, ints);
-          right_high = omega (arith, ints);
-          bottom_low = omega (arith, ints);
-          bottom_high = omega (arith, ints);
-        };
-      }
+      small_in_range hit.frame (of_number (λ (h : hits.Hit). IsSmallFrame h.frame) there.0.hits place hit s.small there.1.1)
 
   proper_turn : IsCheckedBook book → (number : ℕ) (turn : RawTurn) → IsNumbered (raws book.turns) number turn → IsProperTurn (length book.kinds) turn
   proper_turn checked number turn numbered = of_number (IsProperTurn (length book.kinds)) (raws book.turns) number turn checked.proper.turns numbered

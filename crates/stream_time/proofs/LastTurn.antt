@@ -29,7 +29,7 @@ use Rattle.plan_facts.specs.Facts.{AllMayCome, IsConstruction}
 use Rattle.elbow_route.specs.Lists.{ClosesBy}
 use Rattle.build_plan.specs.declared.event.Event.{Event}
 use Rattle.build_plan.specs.declared.event.Event.TheVariants.{Turn}
-use Rattle.build_plan.specs.declared.plan.Plan.{Plan}
+use Rattle.build_plan.specs.declared.event.Plan.{Plan}
 use Rattle.build_plan.specs.TurnEvents.{turn_events, elbow_past}
 use Rattle.build_plan.specs.Numbers.{item_of}
 use Rattle.build_plan.specs.Happenings.{AllStandFor}

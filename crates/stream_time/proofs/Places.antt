@@ -5,7 +5,7 @@ use Rattle.life_plane.specs.Plane.{Plane}
 use Rattle.life_cells.specs.Cells.{alive}
 use Rattle.elbow_graph.specs.Numbered.{IsNumbered}
 use Rattle.recipe_hit.specs.Sound.{AreHits}
-use Rattle.recipe_hit.specs.declared.hit.Hit.{Hit}
+use Rattle.recipe_hit.specs.declared.frame.Hit.{Hit}
 use Rattle.recipe_hit.specs.declared.limits.TheConstants.{LONGEST_HIT}
 
 -- the item with a number stands before it in a list that counts from 0

@@ -5,7 +5,7 @@ use Rattle.book_parts.specs.declared.turn.RawTurn.{RawTurn}
 use Rattle.elbow_graph.specs.Numbered.{IsNumbered}
 use Rattle.recipe_turn.specs.Checked.{raws}
 use Rattle.recipe_hit.specs.Checked.{Struck}
-use Rattle.recipe_hit.specs.declared.hit.Hit as hits
+use Rattle.recipe_hit.specs.declared.frame.Hit as hits
 use Rattle.recipe_book.specs.Checked.{CheckedEntries}
 use Rattle.lane_clear.specs.Frames.{moved_frame}
 use Rattle.event_times.specs.declared.clock.Clock.{Clock}

@@ -6,7 +6,7 @@ use Rattle.plan_facts.specs.Happenings.{Happening, events_of}
 use Rattle.plan_facts.specs.Happenings.Happening.{Turns, Hits}
 use Rattle.event_times.specs.Events.{HasBeen, no_history, history_of, AreChosenEvents, IsNumber}
 use Rattle.recipe_book.specs.Checked.{CheckedEntries}
-use Rattle.build_plan.specs.declared.plan.Plan.{Plan}
+use Rattle.build_plan.specs.declared.event.Plan.{Plan}
 use Rattle.build_plan.specs.Happenings.{AllStandFor}
 use Rattle.stream_time.specs.declared.times.Schedule.{Schedule}
 

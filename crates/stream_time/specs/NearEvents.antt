@@ -6,7 +6,7 @@ use Rattle.life_cells.specs.Boxes.{IsCellInRange}
 use Rattle.life_cells.specs.declared.cell.Cell.{Cell}
 use Rattle.event_times.specs.Early.{IsNearShift}
 use Rattle.build_plan.specs.declared.event.Event.{Event}
-use Rattle.build_plan.specs.declared.plan.Plan.{Plan}
+use Rattle.build_plan.specs.declared.event.Plan.{Plan}
 use Rattle.build_plan.specs.declared.event.Event.TheVariants.{Turn, Hit}
 
 -- how far a place of a plan's hands may be: a book's farthest place, and the room and the side of a target beyond it

@@ -27,12 +27,12 @@ use Rattle.elbow_graph.specs.Goals.{IsEnd, Passes, IsRoute}
 use Rattle.elbow_graph.specs.Numbered.{IsNumbered}
 use Rattle.elbow_graph.specs.NumberedLaws.{turn_numbered}
 use Rattle.recipe_turn.specs.Checked.{raws}
-use Rattle.recipe_hit.specs.declared.hit.Hit.{Hit}
+use Rattle.recipe_hit.specs.declared.frame.Hit.{Hit}
 use Rattle.recipe_book.specs.Checked.{CheckedEntries, IsCheckedBook}
 use Rattle.hand_route.specs.Lists.{IsHandList, IsFarewell}
 use Rattle.build_plan.specs.declared.event.Event.{Event}
 use Rattle.build_plan.specs.declared.throw.Throw.{Throw}
-use Rattle.build_plan.specs.declared.plan.Plan.{Plan}
+use Rattle.build_plan.specs.declared.event.Plan.{Plan}
 use Rattle.build_plan.specs.declared.placing.Placing.{Placing}
 use Rattle.build_plan.specs.Numbers.{item_of}
 use Rattle.build_plan.specs.NumberLaws.{item_numbered}

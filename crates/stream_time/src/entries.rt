@@ -4,7 +4,7 @@ ghost use Rattle.std.specs.Prelude.{◌≤◌, length};
 ghost use Rattle.book_parts.specs.declared.limits.TheConstants.{MOST_SALVOS};
 ghost use Rattle.elbow_graph.specs.Numbered.{IsNumbered};
 ghost use Rattle.recipe_hit.specs.Checked.{Struck};
-ghost use Rattle.recipe_hit.specs.declared.hit.Hit.{Hit};
+ghost use Rattle.recipe_hit.specs.declared.frame.Hit.{Hit};
 
 use build_plan::numbered::salvo_at;
 use recipe_hit::{CheckedSalvo, Hit};

@@ -1,6 +1,6 @@
 use Rattle.std.proofs.Common.{◌≡◌, ◌∙◌, ap, sym, get_or, pos, length, ◌<◌, arith, rules}
 use Rattle.std.proofs.lemmas.List.{take_more_same, get_or-map, length-map}
-use Rattle.recipe_hit.specs.declared.hit.Hit.{Hit}
+use Rattle.recipe_hit.specs.declared.frame.Hit.{Hit}
 use Rattle.find_salvo.specs.Kept.{lanes_of}
 use Rattle.find_salvo.proofs.salvo_hits.shared_lanes.Goals as goal
 

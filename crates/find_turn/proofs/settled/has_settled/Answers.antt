@@ -12,6 +12,7 @@ use Rattle.find_turn.proofs.Gone.{settled_when_none, not_settled, settled_when_f
 use Rattle.find_turn.proofs.Numbers.{read_near}
 use Rattle.find_turn.proofs.Throwing.{part_range}
 use Rattle.find_turn.proofs.settled.has_settled.Goals as goal
+use Rattle.find_turn.specs.declared.settled.TheConstants.{FLIGHT_MARGIN}
 
 pub returns-in_default : goal.returns-in_default
 returns-in_default c = (
@@ -28,7 +29,7 @@ returns-then-not-is_parted c =
     let gone = subst (IsLeastGone (alive c.args.cells.now) (alive c.in_ok-later.later)) (sym (read_near c.in-Some.limit c.in-Some.ensures.near)) c.in-Some.ensures.least in (
       λ no. absurd (true≢false (sym no)),
       λ settled. absurd (not_settled (alive c.args.cells.now) (alive c.in_ok-later.later) limit c.in_ok-later.ensures gone
-          (λ gap. not_if_false _ _ c.if-not-is_parted.true c.is_parted.ensures (subst (Each (VAtMost (limit -ℤ pos 21))) (sym c.in_ok-rest.ensures) gap)) settled),
+          (λ gap. not_if_false _ _ c.if-not-is_parted.true c.is_parted.ensures (subst (Each (VAtMost (limit -ℤ FLIGHT_MARGIN))) (sym c.in_ok-rest.ensures) gap)) settled),
     )
 
 pub shift-requires : goal.shift-requires
@@ -44,7 +45,7 @@ returns c =
     let gone = subst (IsLeastGone s later) (sym (read_near c.in-Some.limit c.in-Some.ensures.near)) c.in-Some.ensures.least in
     let flown : alive c.in_ok-flown.flown ≡ union (back limit s) (shift (pos 1) (pos 1) (ahead limit s)) =
     c.in_ok-flown.ensures ∙ (λ i. union (c.in_ok-rest.ensures i) ((c.in_ok-flying.ensures ∙ ap (shift (pos 1) (pos 1)) c.in_ok-cells_ahead.ensures) i)) in
-    let gap = subst (Each (VAtMost (limit -ℤ pos 21))) c.in_ok-rest.ensures (c.is_parted.ensures.0 c.if-not-is_parted.false) in (
+    let gap = subst (Each (VAtMost (limit -ℤ FLIGHT_MARGIN))) c.in_ok-rest.ensures (c.is_parted.ensures.0 c.if-not-is_parted.false) in (
       λ yes. settled_when_flown s later limit c.in_ok-later.ensures gone gap (sym flown ∙ ap alive (c.equal-2.ensures.0 yes)),
       λ settled. c.equal-2.ensures.1 (same_cells _ _ (flown ∙ flown_when_settled s later limit c.in_ok-later.ensures gone settled)),
     )

@@ -8,6 +8,7 @@ use Rattle.life_cells.specs.PlaceLaws.{live_at, each_more}
 use Rattle.life_cells.specs.declared.cell.Cell.{Cell}
 use Rattle.find_turn.proofs.Kept.{in_range_at, each_of_set}
 use Rattle.find_turn.proofs.settled.is_parted.Goals as goal
+use Rattle.find_turn.specs.declared.settled.TheConstants.{FLIGHT_MARGIN}
 
 pub v_of-requires : goal.v_of-requires
 v_of-requires c = in_range_at _ c.args.cells.now _ c.cells-cell-items.ensures.order c.loop-cell.cell-index _ c.loop-cell-test.true c.requires.range
@@ -15,7 +16,7 @@ v_of-requires c = in_range_at _ c.args.cells.now _ c.cells-cell-items.ensures.or
 pub loop-cell-preserved : goal.loop-cell-preserved
 loop-cell-preserved c =
     let cs = c.cells-cell-items.result.now in
-    each_more cs (λ (d : Cell). VAtMost (to_z w64 (of_z w64 c.args.limit) -ℤ pos 21) d.x d.y) c.loop-cell.cell-index _ (slice_get-get_or cs c.loop-cell.cell-index (cell (pos 0) (pos 0)) c.loop-cell-test.true) c.loop-cell.invariant
+    each_more cs (λ (d : Cell). VAtMost (to_z w64 (of_z w64 c.args.limit) -ℤ FLIGHT_MARGIN) d.x d.y) c.loop-cell.cell-index _ (slice_get-get_or cs c.loop-cell.cell-index (cell (pos 0) (pos 0)) c.loop-cell-test.true) c.loop-cell.invariant
     (record { v = let near = c.v_of.ensures.near in let low = near.low in let high = near.high in omega (arith, ints, c.v_of.ensures.value) })
 
 pub returns-then-limit-v_of : goal.returns-then-limit-v_of
@@ -33,7 +34,7 @@ returns-then-limit-v_of c = (
 
 pub returns : goal.returns
 returns c = (
-  λ _. subst (λ z. Each (VAtMost (z -ℤ pos 21)) (alive c.args.cells.now)) (to_z-of_z w64 c.args.limit c.ranges.limit)
-      (each_of_set c.args.cells.now c.cells-cell-items.result.now c.cells-cell-items.ensures.order (VAtMost (to_z w64 (of_z w64 c.args.limit) -ℤ pos 21)) c.loop-cell.cell-index c.loop-cell-test.false c.loop-cell.invariant),
+  λ _. subst (λ z. Each (VAtMost (z -ℤ FLIGHT_MARGIN)) (alive c.args.cells.now)) (to_z-of_z w64 c.args.limit c.ranges.limit)
+      (each_of_set c.args.cells.now c.cells-cell-items.result.now c.cells-cell-items.ensures.order (VAtMost (to_z w64 (of_z w64 c.args.limit) -ℤ FLIGHT_MARGIN)) c.loop-cell.cell-index c.loop-cell-test.false c.loop-cell.invariant),
   λ _. refl,
 )

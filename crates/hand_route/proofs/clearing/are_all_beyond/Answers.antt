@@ -1,6 +1,6 @@
 use Rattle.lane_clear.specs.Clear.{AreBeyond}
 use Rattle.recipe_hit.specs.declared.frame.HitFrame.{HitFrame}
-use Rattle.recipe_hit.specs.declared.hit.Hit.{Hit}
+use Rattle.recipe_hit.specs.declared.frame.Hit.{Hit}
 use Rattle.lane_clear.specs.Frames.{moved_frame}
 use Rattle.hand_route.proofs.Clear.{holds_more, holds_of_all, fails_here, moved_test}
 use Rattle.hand_route.proofs.clearing.are_all_beyond.Goals as goal

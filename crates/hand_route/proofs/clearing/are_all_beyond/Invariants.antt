@@ -1,4 +1,4 @@
-use Rattle.recipe_hit.specs.declared.hit.Hit.{Hit}
+use Rattle.recipe_hit.specs.declared.frame.Hit.{Hit}
 use Rattle.lane_clear.specs.Clear.{AreBeyond}
 use Rattle.lane_clear.specs.Frames.{moved_frame}
 use Rattle.hand_route.proofs.Clear.{HoldsSoFar}

@@ -2,7 +2,7 @@ use Rattle.life_plane.specs.Strips.{Each}
 use Rattle.life_cells.specs.Cells.{alive}
 use Rattle.lane_clear.specs.Clear.{IsOffBounds}
 use Rattle.recipe_hit.specs.declared.frame.HitFrame.{HitFrame}
-use Rattle.recipe_hit.specs.declared.hit.Hit.{Hit}
+use Rattle.recipe_hit.specs.declared.frame.Hit.{Hit}
 use Rattle.lane_clear.specs.Frames.{moved_frame}
 use Rattle.hand_route.proofs.Clear.{holds_more, holds_of_all, fails_here, moved_test}
 use Rattle.hand_route.proofs.clearing.are_all_off.Goals as goal

@@ -1,6 +1,6 @@
 use Rattle.life_plane.specs.Strips.{Each}
 use Rattle.life_cells.specs.Cells.{alive}
-use Rattle.recipe_hit.specs.declared.hit.Hit.{Hit}
+use Rattle.recipe_hit.specs.declared.frame.Hit.{Hit}
 use Rattle.lane_clear.specs.Clear.{IsOffBounds}
 use Rattle.lane_clear.specs.Frames.{moved_frame}
 use Rattle.hand_route.proofs.Clear.{HoldsSoFar}

@@ -3,7 +3,7 @@ use Rattle.elbow_graph.specs.Numbered.{IsNumbered}
 use Rattle.elbow_graph.specs.NumberedLaws.{numbered_once}
 use Rattle.life_cells.specs.Cells.{alive}
 use Rattle.recipe_hit.specs.Checked.{Struck}
-use Rattle.recipe_hit.specs.declared.hit.Hit.{Hit}
+use Rattle.recipe_hit.specs.declared.frame.Hit.{Hit}
 use Rattle.book_parts.specs.declared.limits.TheConstants.{MOST_LANES}
 use Rattle.stream_time.proofs.Places.{stands_there, numbered_there, short_hits}
 use Rattle.stream_time.proofs.entries.hit_at.Goals as goal

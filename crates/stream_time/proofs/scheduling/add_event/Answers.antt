@@ -2,7 +2,7 @@ use Rattle.std.proofs.Common.{◌≡◌, ℕ, pos, ◌*ℤ◌, ◌≤ℤ◌, Lis
 use Rattle.elbow_graph.specs.Numbered.{IsNumbered}
 use Rattle.life_cells.specs.declared.cell.Cell.{Cell}
 use Rattle.recipe_hit.specs.Checked.{Struck}
-use Rattle.recipe_hit.specs.declared.hit.Hit.{Hit}
+use Rattle.recipe_hit.specs.declared.frame.Hit.{Hit}
 use Rattle.recipe_hit.specs.declared.frame.HitFrame.{HitFrame}
 use Rattle.recipe_book.specs.Checked.{CheckedEntries}
 use Rattle.event_times.specs.Early.{IsEarlyFrame}

@@ -1,5 +1,0 @@
--- Lemmas on patterns.
-pub mod Gliding
-pub mod Near
-pub mod Laid
-pub mod Compiled
